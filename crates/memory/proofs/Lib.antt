@@ -1,0 +1,5 @@
+pub mod Traces
+pub mod Words
+pub mod Lent
+pub mod Windows
+pub mod Pads
