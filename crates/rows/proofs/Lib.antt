@@ -1,0 +1,17 @@
+pub mod Masking
+pub mod Loops
+pub mod Bits
+pub mod Filling
+pub mod Numbers
+pub mod Doubling
+pub mod Sliding
+pub mod Stages
+pub mod Turning
+pub mod Columns
+pub mod Adding
+pub mod Rooms
+pub mod Steps
+pub mod Summing
+pub mod Products
+pub mod Sums
+pub mod RingLaws
