@@ -1,0 +1,15 @@
+pub mod Granted
+pub mod Parts
+pub mod Public
+pub mod Hidden
+pub mod Refusals
+pub mod Resting
+pub mod Forgotten
+pub mod Lasts
+pub mod Steps
+pub mod Driving
+pub mod Loans
+pub mod Marking
+pub mod Checking
+pub mod Sealing
+pub mod Working
