@@ -1,0 +1,13 @@
+use mathlib.Core.Path.{_≡_}
+use native.Mathlib.Omega.{arith}
+use borrow.Author.Tests.{ne-eqb}
+use Rattle.script.specs.Commands.{parts, asked}
+use Rattle.script.proofs.Arguments.{then-none, asked-other}
+use Rattle.script.proofs.parse.asked.Needs as need
+
+pub returns-in-rest : need.returns-in-rest
+returns-in-rest c =
+    let x = c .args .letter in
+    then-none (parts (c .args .rest .now)) (asked (c .args .first) x)
+    (asked-other (c .args .first) x (ne-eqb x 80 (λ e. omega arith)) (ne-eqb x 71 (λ e. omega arith)) (ne-eqb x 84 (λ e. omega arith))
+    (ne-eqb x 83 (λ e. omega arith)) (ne-eqb x 87 (λ e. omega arith)) (ne-eqb x 72 (λ e. omega arith)))
