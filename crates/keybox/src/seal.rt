@@ -13,6 +13,7 @@ use crate::checks::tail_set;
 use crate::device::KeyBox;
 use crate::work::publish;
 use crate::work::rest;
+use crate::work::work_row;
 use memory::Memory;
 use rows::lanes::Parity;
 use rows::lanes::ParityLanes;
@@ -53,10 +54,10 @@ fn seal_plan(profile: &Profile) -> Plan
         r: profile.r,
         at: 0,
         count: profile.t,
-        source: Source::Either(profile.work_row(0), profile.row_place()),
+        source: Source::Either(work_row(profile, 0), profile.row_place()),
         direction: Direction::Up,
-        into: profile.work_row(2),
-        scratch: profile.work_row(3),
+        into: work_row(profile, 2),
+        scratch: work_row(profile, 3),
     }
 }
 
@@ -68,7 +69,7 @@ fn publish_syndrome<M: Memory>(m: &mut M, profile: &Profile) -> u32
     ensures did { λ _. ⌜ M·Memory .seen (now (m .exit)) ≡ accessed (M·Memory .seen (now (m .entry))) (sealed-accesses (now (profile .entry))) (sealed-words (now (profile .entry)) (M·Memory .seen (now (m .entry)) .words)) ⌝ }
 {
     rest(m, profile);
-    m.put_within(profile.work_row(0), 1);
+    m.put_within(work_row(profile, 0), 1);
     let count = sum::<Parity, M>(m, seal_plan(profile), 0);
     publish(m, profile, 2);
     rest(m, profile);

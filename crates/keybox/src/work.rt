@@ -1,7 +1,7 @@
 // What calls do with WORK and OUT: they leave WORK zero, and publish a row that they made there.
 
 ghost use mathlib.Core.Path.{_≡_};
-ghost use Prim.Native.Nat.{_<_};
+ghost use Prim.Native.Nat.{_<_, _≤_};
 ghost use Rattle.memory.specs.Access.{accessed};
 ghost use Rattle.rows.specs.Fill.{part};
 ghost use Rattle.scheme.specs.Zones.{W, workRow};
@@ -12,6 +12,15 @@ use memory::Memory;
 use rows::fill::copy;
 use rows::fill::zero;
 use scheme::profile::Profile;
+
+// Where row i of WORK lies.
+pub(crate) fn work_row(profile: &Profile, i: u32) -> u32
+    requires { ⌜ i < 12 ⌝ }
+    ensures value { λ x. ⌜ x ≡ workRow (now (profile .entry)) i ⌝ }
+    ensures bound { λ x. ⌜ x ≤ 7881 ⌝ }
+{
+    profile.work_at() + i * profile.width()
+}
 
 // Zeroes WORK.
 pub(crate) fn rest<M: Memory>(m: &mut M, profile: &Profile)
@@ -29,7 +38,7 @@ pub(crate) fn publish<M: Memory>(m: &mut M, profile: &Profile, i: u32)
 {
     let out = profile.out_at();
     let width = profile.width();
-    copy(m, profile.work_row(i), out, width);
+    copy(m, work_row(profile, i), out, width);
     zero(m, out + width, width);
     zero(m, 0, profile.in_size());
 }

@@ -2,8 +2,8 @@
 // A profile's ranges bound them, so no sum here can pass 2^32.
 
 ghost use mathlib.Core.Path.{_≡_};
-ghost use Prim.Native.Nat.{_<_, _≤_};
-ghost use Rattle.scheme.specs.Zones.{W, B, inSize, keyAt, outAt, outSize, workAt, workSize, workRow, N};
+ghost use Prim.Native.Nat.{_≤_};
+ghost use Rattle.scheme.specs.Zones.{W, B, inSize, keyAt, outAt, outSize, workAt, workSize, N};
 use crate::profile::Profile;
 
 impl Profile {
@@ -63,15 +63,6 @@ impl Profile {
         ensures bound { λ x. ⌜ x ≤ 6000 ⌝ }
     {
         12 * self.width()
-    }
-
-    // Where row i of WORK lies.
-    pub fn work_row(&self, i: u32) -> u32
-        requires { ⌜ i < 12 ⌝ }
-        ensures value { λ x. ⌜ x ≡ workRow (now (self .entry)) i ⌝ }
-        ensures bound { λ x. ⌜ x ≤ 7881 ⌝ }
-    {
-        self.work_at() + i * self.width()
     }
 
     // How many words the zones have together.

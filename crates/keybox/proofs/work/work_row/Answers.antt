@@ -2,7 +2,7 @@
 use native.Mathlib.Nat.{mul-le-mul}
 use native.Mathlib.Omega.{arith}
 use Prim.Native.Nat.{_*_, _≤_}
-use Rattle.scheme.proofs.profile.Profile.work_row.Needs as need
+use Rattle.keybox.proofs.work.work_row.Needs as need
 
 pub returns : need.returns
 returns c =
