@@ -1,9 +1,8 @@
 -- A profile is determined by its numbers, since its ranges hold in one way at most; so a setting that is granted leaves the profile asked for.
-use mathlib.Core.Path.{_≡_, refl, sym, ap, subst, _∙_}
+use mathlib.Core.Path.{_≡_, refl, ap, subst}
 use mathlib.Core.List.{List}
 use mathlib.Core.Bool.{Bool, true, false}
 use Prim.Native.Nat.{ℕ, _*_, _<_, _≤_}
-use native.Mathlib.Omega.{arith}
 use lib.ListN.{length, getD}
 use denote.Struct.Props.{props}
 use Rattle.std.specs.declared.result.Result.the-variants.{Ok}

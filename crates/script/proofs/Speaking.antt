@@ -1,9 +1,9 @@
 -- What a session prints are the replies to the lines of its input: a line is answered where it comes, and the first 121 bytes of a line are enough.
 use mathlib.Core.Path.{_≡_, refl, sym, ap, _∙_}
 use mathlib.Core.List.{List, [], _∷_, _++_}
-use mathlib.Core.Bool.{Bool, true, false}
+use mathlib.Core.Bool.{Bool, true}
 use mathlib.Core.Logic.{⊎-elim}
-use Prim.Native.Nat.{ℕ, suc, _+_, _<_, _≤_}
+use Prim.Native.Nat.{ℕ, _+_, _<_, _≤_}
 use native.Mathlib.Omega.{arith}
 use lib.Dec.{eqb, ltb}
 use lib.ListN.{length, take, length-take}
@@ -13,13 +13,13 @@ use Rattle.std.specs.declared.option.Option.the-variants.{Some, None}
 use Rattle.std.proofs.shelf.Lists.{take-all}
 use Rattle.std.proofs.shelf.Tests.{cases-lt, lt-ltb}
 use Rattle.memory.specs.Access.{Seen}
-use Rattle.script.specs.Commands.{meaning}
-use Rattle.script.specs.Splitting.{lines}
-use Rattle.script.specs.Feeding.{Numbered, Cut, pushed, closed, start, brought, numbered-from}
+use Rattle.lines.specs.Commands.{meaning}
+use Rattle.lines.specs.Splitting.{lines}
+use Rattle.lines.specs.Feeding.{Numbered, Cut, pushed, closed, start, brought, numbered-from}
 use Rattle.script.specs.Printing.{printed}
 use Rattle.script.specs.Sessions.{Desk, waiting, works, works-off}
-use Rattle.script.specs.Talking.{Talk, begun, replied, output, replies, TalksAs}
-use Rattle.script.proofs.Coming.{comes-to-its-lines}
+use Rattle.script.specs.Talking.{replied, output, replies, TalksAs}
+use Rattle.lines.proofs.Coming.{comes-to-its-lines}
 
 -- the replies to some numbered lines
 abbrev answers : (List ℕ → ℕ) → Desk → List Numbered → List (List ℕ)

@@ -1,12 +1,12 @@
 -- One byte more of a line that is put together: from the front of a text, of the digits of a word, or at the end of a number.
-use mathlib.Core.Path.{_≡_, refl, sym, ap, _∙_}
+use mathlib.Core.Path.{_≡_, sym, ap, _∙_}
 use mathlib.Core.List.{List, [], _∷_, _++_, append-assoc}
 use Prim.Native.Nat.{ℕ, zero, suc, _+_, _-_, _*_, _/_, _%_, _^_, _<_, _≤_}
 use native.Mathlib.Omega.{arith}
-use lib.ListN.{length, getD, take, set, length-append, length-take}
+use lib.ListN.{length, getD, take, length-append}
 use Rattle.std.specs.Written.{decimal}
 use Rattle.std.proofs.shelf.Decimals.{decimal-digit, decimal-step, length-decimal-le}
-use Rattle.std.proofs.shelf.Lists.{take-more, take-more-set, take-all, take-at}
+use Rattle.std.proofs.shelf.Lists.{take-more}
 use Rattle.script.specs.Printing.{spaced, glyph, hexadecimal}
 
 pub text-more : (bs cs ds xs : List ℕ) (i : ℕ) → i < length xs → cs ≡ bs ++ take i xs → ds ≡ cs ++ getD xs i 0 ∷ [] → ds ≡ bs ++ take (i + 1) xs
@@ -44,15 +44,3 @@ length-only n h = ap length (decimal-digit n h)
 -- a number of 32 bits has at most ten digits
 pub decimal-short : (n : ℕ) → n < 2 ^ 32 → length (decimal n) ≤ 10
 decimal-short n h = length-decimal-le 10 n (omega arith) (omega arith) (omega arith)
-
--- of a list with room for n bytes the first i are taken: one more is kept while there is room, and none after that
-pub kept-more : (n : ℕ) (xs : List ℕ) (i b : ℕ) → length xs ≡ n → i < n → take (i + 1) (set xs i b) ≡ take n (take i xs ++ b ∷ [])
-kept-more n xs i b e h =
-    let k : i < length xs = omega arith in
-    let s : length (take i xs ++ b ∷ []) ≤ n = simp (length-append, length-take) (omega arith) in
-    take-more-set xs i b k ∙ sym (take-all n (take i xs ++ b ∷ []) s)
-
-pub kept-full : (n : ℕ) (xs : List ℕ) (i b : ℕ) → length xs ≡ n → n ≤ i → i ≤ n → take i xs ≡ take n (take i xs ++ b ∷ [])
-kept-full n xs i b e h k =
-    let s : length (take i xs) ≡ n = simp length-take (omega arith) in
-    sym (take-at (take i xs) (b ∷ []) n s)

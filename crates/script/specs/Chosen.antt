@@ -3,7 +3,7 @@ use mathlib.Core.Path.{_≡_, refl}
 use mathlib.Core.List.{List}
 use mathlib.Core.Bool.{Bool, true, false}
 use Prim.Native.Nat.{ℕ}
-use lib.ListN.{length}
+use lib.ListN.{length, getD, drop}
 use Rattle.std.specs.declared.result.Result.{Result}
 use Rattle.std.specs.declared.result.Result.the-variants.{Ok, Err}
 use Rattle.scheme.specs.declared.profile.Profile.{Profile}
@@ -36,3 +36,7 @@ if-lawful r d t ts false e = Err OutOfRange
 -- the profile with these numbers, where they are lawful
 abbrev pub profile-of : ℕ → ℕ → ℕ → List ℕ → Result Profile ProfileFault
 profile-of r d t ts = if-lawful r d t ts (lawful r d t ts) refl
+
+-- r, d, t and the thresholds in one list, as a line has them
+abbrev pub profile-from : List ℕ → Result Profile ProfileFault
+profile-from ns = profile-of (getD ns 0 0) (getD ns 1 0) (getD ns 2 0) (drop 3 ns)

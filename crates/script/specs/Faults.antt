@@ -1,5 +1,4 @@
 -- The number, the layer and the place of each refusal of a line. Those of the profile and of the box stay as they are.
-use Prim.Native.Nat.{ℕ}
 use Rattle.scheme.specs.declared.fault.Layer.the-variants.{Line as line}
 use Rattle.scheme.specs.Faults.{Told, told, profile-told, box-told}
 use Rattle.script.specs.declared.fault.LineFault.{LineFault}

@@ -1,9 +1,6 @@
-pub mod Digits
-pub mod Splitting
-pub mod Commands
 pub mod Faults
 pub mod Printing
-pub mod Feeding
 pub mod Chosen
 pub mod Sessions
 pub mod Talking
+pub mod Example

@@ -1,11 +1,9 @@
 -- What a script does: each line on the desk as the one before left it, and what is printed for a whole input.
-use mathlib.Core.Path.{_≡_}
-use mathlib.Core.List.{List, [], _∷_, _++_}
-use Prim.Native.Nat.{ℕ, _+_}
+use mathlib.Core.List.{List}
+use Prim.Native.Nat.{ℕ}
 use lib.Dec.{eqb}
 use lib.ListN.{length}
 use Rattle.std.specs.Options.{mapped}
-use Rattle.std.specs.Vec.{listOf}
 use Rattle.std.specs.declared.option.Option.{Option}
 use Rattle.std.specs.declared.option.Option.the-variants.{Some, None}
 use Rattle.std.specs.declared.result.Result.{Result}
@@ -16,10 +14,9 @@ use Rattle.scheme.specs.declared.profile.Profile.{Profile}
 use Rattle.keybox.specs.declared.device.KeyBox.{KeyBox}
 use Rattle.scheme.specs.declared.fault.ProfileFault.{ProfileFault}
 use Rattle.scheme.specs.declared.fault.BoxFault.{BoxFault}
-use Rattle.keybox.specs.declared.call.Call.{Call}
 use Rattle.keybox.specs.declared.call.Answer.{Answer}
 use Rattle.keybox.specs.declared.call.Answer.the-variants as answers
-use Rattle.keybox.specs.Model.{State, Outcome, opened, next}
+use Rattle.keybox.specs.Model.{State, opened, next}
 use Rattle.keybox.specs.Accesses.{public, shape, verdict, accesses, open-accesses}
 use Rattle.keybox.specs.Device.{state}
 use Rattle.script.specs.declared.grant.Grant.{Grant}
@@ -28,10 +25,8 @@ use Rattle.script.specs.declared.fault.LineFault.{LineFault}
 use Rattle.script.specs.declared.fault.LineFault.the-variants.{Malformed, NoProfile, Profile as of-profile, Box as of-box}
 use Rattle.script.specs.declared.desk.Desk as code
 use Rattle.script.specs.Chosen.{profile-of}
-use Rattle.script.specs.Commands.{Ask, call, hear, Request, set, ask, meaning}
-use Rattle.script.specs.Splitting.{lines}
-use Rattle.script.specs.Feeding.{Numbered, Cut, pushed, closed, start}
-use Rattle.script.specs.Printing.{printed}
+use Rattle.lines.specs.Commands.{Ask, call, hear, Request, set, ask, meaning}
+use Rattle.lines.specs.Feeding.{Numbered}
 
 -- a box and the memory that it stands over
 pub record Device : Type 0 where

@@ -8,8 +8,8 @@ use Rattle.std.specs.declared.option.Option.the-variants.{Some, None}
 use Rattle.memory.specs.Access.{Seen}
 use Rattle.memory.specs.declared.Memory.{Ghosts}
 use Rattle.script.specs.declared.session.Session as code
-use Rattle.script.specs.Splitting.{lines}
-use Rattle.script.specs.Feeding.{Numbered, Cut, cut-of, pushed, closed, start}
+use Rattle.lines.specs.Splitting.{lines}
+use Rattle.lines.specs.Feeding.{Numbered, Cut, cut-of, pushed, closed, start}
 use Rattle.script.specs.Printing.{printed}
 use Rattle.script.specs.Sessions.{Desk, desk-of, waiting, works}
 

@@ -1,31 +1,30 @@
 // The desk at which lines are worked off: the memory, until a profile is granted in the first line, and the box from then on.
+// A line that is malformed, or has no box to ask, touches neither.
 
 ghost use mathlib.Core.Path.{_≡_};
-ghost use lib.Dec.{eqb};
-ghost use lib.ListN.{getD, drop};
-ghost use Rattle.script.specs.Chosen.{profile-of};
-ghost use Rattle.script.specs.Commands.{listed, request, ordered};
+ghost use Rattle.script.specs.Chosen.{profile-from};
+ghost use Rattle.lines.specs.Commands.{listed, request, ordered};
 ghost use Rattle.std.specs.declared.option.Option.the-variants.{Some};
-ghost use Rattle.script.specs.declared.command.Command.the-variants.{Set};
-ghost use Rattle.script.specs.Feeding.{line-of};
+ghost use Rattle.lines.specs.declared.command.Command.the-variants.{Set};
+ghost use Rattle.lines.specs.Feeding.{line-of};
 ghost use Rattle.script.specs.Sessions.{device-of, desk-of, waiting, grant-of, obeys, serves, works, works-off};
-use crate::command::Command;
-use crate::command::Order;
-use crate::command::Setting;
 use crate::fault::LineFault;
 use crate::fault::LineFromBox;
 use crate::fault::LineFromProfile;
 use crate::grant::Grant;
-use crate::line::Line;
-use crate::parse::parse;
 use keybox::call::Answer;
 use keybox::call::Call;
 use keybox::device::KeyBox;
-use memory::HeardMemory;
-use memory::Memory;
 use scheme::fault::BoxFault;
 use scheme::fault::ProfileFault;
 use scheme::profile::Profile;
+use lines::command::Command;
+use lines::command::Order;
+use lines::command::Setting;
+use lines::line::Line;
+use lines::parse::parse;
+use memory::HeardMemory;
+use memory::Memory;
 
 const UNIT: u32 = 1;
 
@@ -37,7 +36,7 @@ pub struct Desk<M: Memory> {
 
 // The profile that a setting asks for.
 fn profile(setting: &Setting) -> Result<Profile, ProfileFault>
-    ensures { λ r. ⌜ r ≡ profile-of (getD (listed (now (setting .entry))) 0 0) (getD (listed (now (setting .entry))) 1 0) (getD (listed (now (setting .entry))) 2 0) (drop 3 (listed (now (setting .entry)))) ⌝ }
+    ensures { λ r. ⌜ r ≡ profile-from (listed (now (setting .entry))) ⌝ }
 {
     let mut profile = Profile::standard();
     profile.set(setting.r(), setting.d(), setting.t(), setting.thresholds())?;

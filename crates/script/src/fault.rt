@@ -1,4 +1,5 @@
-// Why a line is refused. A fault of the profile or of the box nests in the line's, and its number, layer and place come up unchanged.
+// Why a line is refused.
+// A fault of the profile or of the box nests in the line's, and its number, layer and place come up unchanged.
 
 ghost use mathlib.Core.Path.{_≡_};
 ghost use Rattle.script.specs.declared.fault.LineFault.the-variants.{Profile as of-profile, Box as of-box};

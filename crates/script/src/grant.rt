@@ -1,4 +1,4 @@
-// What a line that is granted is told.
+// What a line that is granted is told: nothing but that, a word, how many rotations were made, or the number heard.
 
 #[derive(Clone, Copy)]
 pub enum Grant {

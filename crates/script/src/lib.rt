@@ -1,13 +1,9 @@
-// Scripts for a key box: what a line asks for, what it is answered, and the session that works a script off.
-pub mod command;
+// Scripts for a key box: what each line does, what it is told, and the session that works a script off as it comes.
+// Everything that is printed is given by contracts; a program only reads, calls and writes.
 pub mod desk;
-pub mod digits;
+pub mod examples;
 pub mod fault;
 pub mod grant;
-pub mod line;
-pub mod parse;
 pub mod print;
 pub mod reply;
 pub mod session;
-mod split;
-pub mod splitter;

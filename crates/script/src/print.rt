@@ -1,9 +1,10 @@
 // The bytes of a printed line, written one after the other.
+// Every part has a bound, and together they fit, so no byte is ever dropped.
 
 ghost use mathlib.Core.Path.{_≡_};
-ghost use mathlib.Core.List.{[], _∷_, _++_};
+ghost use mathlib.Core.List.{_++_};
 ghost use Prim.Native.Nat.{_+_, _≤_, _<_};
-ghost use lib.ListN.{length, take};
+ghost use lib.ListN.{length};
 ghost use Rattle.std.specs.Written.{decimal};
 ghost use lib.Chars.{codes};
 ghost use Rattle.script.specs.Faults.{line-told};

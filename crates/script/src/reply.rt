@@ -1,4 +1,5 @@
-// A printed line as it is put together. The longest is a refusal, with three numbers of ten digits and the name of a layer.
+// A printed line as it is put together.
+// The longest is a refusal, with three numbers of at most ten digits and the name of a layer: 44 bytes with the line feed.
 
 ghost use mathlib.Core.Path.{_≡_};
 ghost use mathlib.Core.List.{[], _∷_, _++_};

@@ -1,16 +1,17 @@
 // A session: the bytes of a script go in, and the reply to each line comes out as soon as the line is complete.
+// What all of them together are for a whole input stands on the contract of `new`.
 
 ghost use mathlib.Core.Path.{_≡_};
 ghost use Rattle.std.specs.Options.{mapped};
-ghost use Rattle.script.specs.Feeding.{line-of};
+ghost use Rattle.lines.specs.Feeding.{line-of};
 ghost use Rattle.script.specs.Printing.{said, printed};
 ghost use Rattle.script.specs.Sessions.{desk-of, works};
 ghost use Rattle.script.specs.Talking.{talk-of, begun, fed, finished, TalksAs};
 use crate::desk::Desk;
-use crate::line::Line;
 use crate::print::print;
 use crate::reply::Reply;
-use crate::splitter::Splitter;
+use lines::line::Line;
+use lines::splitter::Splitter;
 use memory::HeardMemory;
 use memory::Memory;
 

@@ -22,6 +22,9 @@ const BASE: u32 = 64;
 
 const LENGTH: u32 = 8128;
 
+// What the box stands over.
+type Layers = Window<Scrambler<Tape>>;
+
 fn write(rt: &LibcRuntime, reply: Option<Reply>) -> io::Result<()> {
     match reply {
         Some(reply) => rt.stdout().write_all(reply.as_bytes()),
@@ -29,19 +32,22 @@ fn write(rt: &LibcRuntime, reply: Option<Reply>) -> io::Result<()> {
     }
 }
 
+// Reads what has come of the input and answers the lines that it completes. How many bytes there were is answered; 0 is the end.
+fn pass(rt: &LibcRuntime, session: &mut Session<Layers>) -> io::Result<usize> {
+    let mut chunk = [0; 4096];
+    let count = rt.stdin().read(&mut chunk)?;
+    for byte in &chunk[0..count] {
+        write(rt, session.feed(*byte))?;
+    }
+    Ok(count)
+}
+
 fn main(rt: LibcRuntime) -> io::Result<()> {
-    let memory = Window::over(BASE, LENGTH, Scrambler::over(SEED, Tape::new()));
-    let mut session = Session::new(memory);
-    let mut input = rt.stdin();
-    let mut chunk = [0u8; 4096];
-    // Nothing says that an input ends, so the reads are counted.
+    let mut session = Session::new(Window::over(BASE, LENGTH, Scrambler::over(SEED, Tape::new())));
+    // Nothing says that an input ends, so the turns are counted.
     for _ in 0..u64::MAX {
-        let count = input.read(&mut chunk)?;
-        if count == 0 {
+        if pass(&rt, &mut session)? == 0 {
             break;
-        }
-        for byte in &chunk[0..count] {
-            write(&rt, session.feed(*byte))?;
         }
     }
     write(&rt, session.finish())

@@ -1,3 +1,4 @@
+-- A setting that is granted leaves a profile with the numbers asked for, and there is but one.
 use mathlib.Core.Path.{_≡_, sym, _∙_}
 use mathlib.Core.Bool.{true}
 use Rattle.std.proofs.shelf.Tests.{cond-true}

@@ -1,4 +1,5 @@
-use mathlib.Core.Path.{_≡_, _∙_, ap}
+-- The last digit stands behind those of a tenth of the number, or alone.
+use mathlib.Core.Path.{_∙_, ap}
 use mathlib.Core.List.{[], _∷_, _++_}
 use Prim.Native.Nat.{_+_, _%_}
 use native.Mathlib.Omega.{arith}

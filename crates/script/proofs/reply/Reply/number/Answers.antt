@@ -1,3 +1,4 @@
+-- A number of 32 bits has at most ten digits, for which there is room.
 use native.Mathlib.Omega.{arith}
 use Rattle.std.specs.Written.{decimal}
 use Rattle.script.specs.Printing.{said}

@@ -1,4 +1,4 @@
-use native.Mathlib.Omega.{arith}
+-- The byte lies where the line ended.
 use borrow.Author.Needs.{needs}
 use Rattle.std.proofs.shelf.Lists.{take-more-set}
 use Rattle.script.proofs.reply.Reply.push.Needs as need

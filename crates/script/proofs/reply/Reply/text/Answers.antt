@@ -1,7 +1,7 @@
+-- Each turn adds the next byte of the text.
 use mathlib.Core.Path.{_∙_, ap}
 use mathlib.Core.List.{_++_}
 use native.Mathlib.Omega.{arith}
-use borrow.Author.Needs.{needs}
 use Rattle.std.proofs.shelf.Lists.{take-all}
 use Rattle.script.specs.Printing.{said}
 use Rattle.script.proofs.Writing.{text-more}

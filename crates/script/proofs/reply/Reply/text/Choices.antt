@@ -1,3 +1,4 @@
+-- The bytes before, and the front of the text that was added.
 use mathlib.Core.Path.{_≡_}
 use mathlib.Core.List.{_++_}
 use Prim.Native.Nat.{_+_}

@@ -1,7 +1,7 @@
+-- Each turn adds the highest digit that is left.
 use mathlib.Core.Path.{_≡_, sym, _∙_, ap}
 use mathlib.Core.List.{_++_, _∷_, []}
 use native.Mathlib.Omega.{arith}
-use borrow.Author.Needs.{needs}
 use Rattle.std.proofs.shelf.Lists.{append-nil}
 use Rattle.script.specs.Printing.{said, hexadecimal}
 use Rattle.script.proofs.Writing.{spaced-more, digit-more}

@@ -1,3 +1,4 @@
+-- What is written and the digits that are left are the whole word.
 use mathlib.Core.Path.{_≡_}
 use mathlib.Core.List.{_++_}
 use Prim.Native.Nat.{_+_}

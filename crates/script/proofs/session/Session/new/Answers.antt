@@ -1,3 +1,4 @@
+-- The law holds of every input and every memory, so it holds where a session begins.
 use borrow.Author.Needs.{needs}
 use Rattle.script.proofs.Speaking.{talks-as}
 use Rattle.script.proofs.session.Session.new.Needs as need

@@ -1,7 +1,0 @@
-use mathlib.Core.Path.{sym}
-use native.Mathlib.Omega.{arith}
-use Rattle.std.proofs.shelf.Lists.{getD-take}
-use Rattle.script.proofs.command.Setting.d.Needs as need
-
-pub returns : need.returns
-returns c = sym (getD-take (c .args .self .now .count) (c .args .self .now .numbers) 1 0 (omega arith))

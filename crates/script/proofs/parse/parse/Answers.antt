@@ -1,7 +1,0 @@
-use mathlib.Core.Path.{_∙_}
-use borrow.Author.Needs.{needs}
-use Rattle.script.proofs.Arguments.{meaning-at}
-use Rattle.script.proofs.parse.parse.Needs as need
-
-pub returns-in-len1-up : need.returns-in-len1-up
-returns-in-len1-up c = c .asked .ensures ∙ meaning-at (c .args .first) (c .args .line .now) (search needs) (search needs)

@@ -1,7 +1,0 @@
--- The buffer keeps its length from read to read.
-use mathlib.Core.Path.{_≡_}
-use lib.ListN.{length}
-use Rattle.talk.proofs.main.Given as given
-
-abbrev pub Inv-loop : given.InvT-loop
-Inv-loop l = length (l .chunk) ≡ 4096
