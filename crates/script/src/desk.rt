@@ -15,9 +15,6 @@ use crate::grant::Grant;
 use keybox::call::Answer;
 use keybox::call::Call;
 use keybox::device::KeyBox;
-use scheme::fault::BoxFault;
-use scheme::fault::ProfileFault;
-use scheme::profile::Profile;
 use lines::command::Command;
 use lines::command::Order;
 use lines::command::Setting;
@@ -25,6 +22,9 @@ use lines::line::Line;
 use lines::parse::parse;
 use memory::HeardMemory;
 use memory::Memory;
+use scheme::fault::BoxFault;
+use scheme::fault::ProfileFault;
+use scheme::profile::Profile;
 
 const UNIT: u32 = 1;
 
