@@ -11,8 +11,6 @@ ghost use Rattle.memory.specs.Access.{Seen, accessed, get as gets, put as puts
 pub mod bare;
 pub mod scrambler;
 pub mod tape;
-#[cfg(test)]
-mod tests;
 pub mod window;
 
 // Addressable words. An address is any `u32`; past the size a get answers 0 and a put changes no word.
