@@ -1,6 +1,8 @@
 // The box over lent words as a C function, so that its compiled code can be run and watched from outside.
 // It adds nothing to the box: the promise is that of `seal_words`.
 
+#![tactic(auto)]
+
 use keybox::lent::seal_words;
 use scheme::profile::Profile;
 

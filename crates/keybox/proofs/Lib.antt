@@ -1,7 +1,7 @@
 pub mod Granted
 pub mod Parts
 pub mod Public
-pub mod Hidden
+pub mod Hiding
 pub mod Refusals
 pub mod Resting
 pub mod Forgotten

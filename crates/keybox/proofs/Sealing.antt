@@ -3,7 +3,7 @@ use Rattle.std.proofs.Common.{◌≡◌, ℕ, zero, suc, ◌+◌, ◌-◌, ◌*�
 use native.Mathlib.Nat.{mod_self, add-mod_right}
 use lib.ListN.{length-replicate}
 use Rattle.std.specs.List.{AllByRecursion as All, range_with_len}
-use Rattle.std.proofs.lemmas.List.Sums.{sum_by_cons}
+use Rattle.std.proofs.lemmas.List.Sums.{sum_by-cons}
 use Rattle.std.proofs.ByRecursion.{All-from_get_or}
 use Rattle.std.proofs.lemmas.Bool.{cases_lt, cases_eq, cases_order, leb-false, lt-ltb, le-ltb, le-leb, lt-leb, eq-eqb, ne_eqb}
 use Rattle.memory.specs.Words.{over, zeros}
@@ -56,12 +56,12 @@ both_halves r (q ∷ qs) g j k =
     let E : ℕ → ℕ = λ x. cond (eqb x j) 1 0 in
     let G : ℕ → ℕ = λ x. rotated r x g j in
     let ih = both_halves r qs g j k in
-    let one = sum_by_cons F q qs in
+    let one = sum_by-cons F q qs in
     elim (cases_lt q r) [
       | inl h ↦
           let low : ltb q r ≡ true = lt-ltb q r h in
           let first : F q ≡ E q = ap (λ b. rotated r (cond b q (q - r)) (cond b unit g) j) low ∙ unit_rotated r q j h k in
-          let left : sum_by E (left_half r (q ∷ qs)) ≡ E q + sum_by E (left_half r qs) = ap (λ b. sum_by E (cond b (q ∷ left_half r qs) (left_half r qs))) low ∙ sum_by_cons E q (left_half r qs) in
+          let left : sum_by E (left_half r (q ∷ qs)) ≡ E q + sum_by E (left_half r qs) = ap (λ b. sum_by E (cond b (q ∷ left_half r qs) (left_half r qs))) low ∙ sum_by-cons E q (left_half r qs) in
           let right : sum_by G (right_half r (q ∷ qs)) ≡ sum_by G (right_half r qs) =
           ap (λ b. sum_by G (map (λ x. x - r) (cond b (q ∷ kept (λ x. leb r x) qs) (kept (λ x. leb r x) qs)))) (lt-leb r q h) in
           omega (arith, one, first, left, right, ih)
@@ -70,7 +70,7 @@ both_halves r (q ∷ qs) g j k =
           let first : F q ≡ G (q - r) = ap (λ b. rotated r (cond b q (q - r)) (cond b unit g) j) high in
           let left : sum_by E (left_half r (q ∷ qs)) ≡ sum_by E (left_half r qs) = ap (λ b. sum_by E (cond b (q ∷ left_half r qs) (left_half r qs))) high in
           let right : sum_by G (right_half r (q ∷ qs)) ≡ G (q - r) + sum_by G (right_half r qs) =
-          ap (λ b. sum_by G (map (λ x. x - r) (cond b (q ∷ kept (λ x. leb r x) qs) (kept (λ x. leb r x) qs)))) (le-leb r q h) ∙ sum_by_cons G (q - r) (right_half r qs) in
+          ap (λ b. sum_by G (map (λ x. x - r) (cond b (q ∷ kept (λ x. leb r x) qs) (kept (λ x. leb r x) qs)))) (le-leb r q h) ∙ sum_by-cons G (q - r) (right_half r qs) in
           omega (arith, one, first, left, right, ih)
     ]
 

@@ -1,5 +1,7 @@
 // The key box: a device that seals error positions to a public syndrome, over any memory of words.
 // Positions, rows and syndromes are secret; what the box does with its memory depends on public numbers and verdicts alone.
+
+#![tactic(auto)]
 pub mod call;
 mod checks;
 pub mod device;

@@ -1,6 +1,6 @@
 -- Accesses to a memory of words, the trail that they leave, and what a promise says of a memory.
 -- A step rule cannot read a word, so a trail can tell nothing that the addresses and kinds do not tell.
-use Rattle.std.specs.Prelude.{ℕ, List, [], ◌∷◌, fold}
+use Rattle.std.specs.Prelude.{ℕ, List, fold}
 
 -- an access: its kind, 0 for a get and 1 for a put, and the address
 pub record Access : Type 0 where

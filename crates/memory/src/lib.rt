@@ -1,6 +1,8 @@
 // Memories of 32-bit words. What a memory is stands in one trait, so that everything above is proved once, for every memory.
 // A memory's addresses may be overheard, so its promises name each access that is made: the trail.
 
+#![tactic(auto)]
+
 ghost use Rattle.std.specs.Prelude.{◌≡◌, ℕ, ◌+◌, ◌<◌, ◌≤◌, List, [], ◌∷◌, length, slice_index, slice_set};
 ghost use Rattle.memory.specs.Access.{Seen, accessed, get as gets, put as puts};
 

@@ -1,5 +1,5 @@
 -- Rows of r bits are the ring F2[x]/(x^r - 1), and a product of positions and a row is a product in it.
-use Rattle.std.specs.Prelude.{◌≡◌, ℕ, ◌+◌, ◌-◌, ◌*◌, ◌%◌, ◌<◌, ◌≤◌, cond, List, [], ◌∷◌, sum_by, ◌==◌}
+use Rattle.std.specs.Prelude.{◌≡◌, ℕ, ◌+◌, ◌-◌, ◌*◌, ◌%◌, ◌<◌, ◌≤◌, cond, List, sum_by, ◌==◌}
 use Rattle.std.specs.List.{range_with_len, AllByRecursion as All}
 use Rattle.rows.specs.Rows.{Row, unit, plus, product}
 

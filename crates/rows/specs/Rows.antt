@@ -1,6 +1,6 @@
 -- Rows of r bits, their rotations, products and counts, and the words that they lie in.
 -- A row is told by its bits, as everything above speaks of them; how it lies in words is said once, here.
-use Rattle.std.specs.Prelude.{ℕ, ◌+◌, ◌-◌, ◌*◌, ◌/◌, ◌%◌, ◌^◌, Bool, true, false, cond, ◌&&◌, List, [], ◌∷◌, map, sum_by, ◌==◌, nat_eq, nat_le, nat_lt, slice_index}
+use Rattle.std.specs.Prelude.{ℕ, ◌+◌, ◌-◌, ◌*◌, ◌/◌, ◌%◌, ◌^◌, Bool, false, cond, List, [], ◌∷◌, map, sum_by, ◌==◌, nat_eq, nat_le, nat_lt, slice_index}
 use Rattle.std.specs.List.{range_with_len}
 
 -- a row is told by its bits, each 0 or 1; of a row of r bits only those below r count

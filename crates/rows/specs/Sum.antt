@@ -7,7 +7,7 @@ use Rattle.rows.specs.declared.plan.Direction.TheVariants.{Up, Down}
 use Rattle.rows.specs.declared.plan.Source.{Source}
 use Rattle.rows.specs.declared.plan.Source.TheVariants.{One, Either}
 use Rattle.rows.specs.declared.plan.Plan.{Plan}
-use Rattle.rows.specs.Rows.{Row, none, unit, plus, rotated, cut, row_at, width, has_tail}
+use Rattle.rows.specs.Rows.{Row, rotated, cut, row_at, width, has_tail}
 use Rattle.rows.specs.Masks.{chosen}
 use Rattle.rows.specs.Lane.{lane, planes, add_accesses}
 use Rattle.rows.specs.Fill.{part, looped, zero_accesses, pick_accesses}

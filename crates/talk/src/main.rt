@@ -1,6 +1,8 @@
 // The script program: reads a script from standard input and prints a line for each of its lines.
 // It only reads, calls and writes; what is printed comes from the session, whose contracts give every byte.
 
+#![tactic(auto)]
+
 use memory::scrambler::Scrambler;
 use memory::tape::Tape;
 use memory::window::Window;

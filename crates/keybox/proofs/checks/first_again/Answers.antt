@@ -12,6 +12,6 @@ loop-i-preserved g c =
     let same = ap (λ z. z.words) c.loop-i.invariant.1 in
     let word = c.get-within-word.ensures.value ∙ ap (λ z. get_or z (c.args.at + c.loop-i.i) 0) same in
     let kept = ap (λ z. z.words) c.get-within-word.ensures.did ∙ same in (
-      first_step _ _ _ _ _ c.loop-i.invariant.0 (again_test _ _ _ _ _ _ _ c.loop-i-test.true kept word c.stands-in.ensures.value) c.note.ensures,
-      pair_step _ _ _ _ _ _ c.loop-i.invariant.1 c.get-within-word.ensures.did c.stands-in.ensures.did,
+      first_step _ _ _ _ _ c.loop-i.invariant.0 (again_test _ _ _ _ _ _ _ c.loop-i-test.true kept word c.stands_in.ensures.value) c.note.ensures,
+      pair_step _ _ _ _ _ _ c.loop-i.invariant.1 c.get-within-word.ensures.did c.stands_in.ensures.did,
     )

@@ -4,7 +4,7 @@ use Rattle.keybox.proofs.checks.tail_set.Goals as goal
 
 pub returns-then-last-used-ne0 : goal.returns-then-last-used-ne0
 returns-then-last-used-ne0 g c =
-    let at = c.row-place.ensures.value in
+    let at = c.row_place.ensures.value in
     let long = c.width.ensures.value in
     let did = c.get-within-last.ensures.did in
     record {

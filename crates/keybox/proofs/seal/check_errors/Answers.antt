@@ -7,8 +7,8 @@ returns-in-Some-first-again g c =
     let p = c.args.profile.now in
     let range = c.in-default.ensures.value in
     record {
-      value = twice_value p _ _ range c.first-beyond.ensures.did _ c.in-Some-first-again.ensures.value;
-      did = twice_did p _ _ range c.first-beyond.ensures.did _ c.first-again.ensures.did;
+      value = twice_value p _ _ range c.first_beyond.ensures.did _ c.in-Some-first-again.ensures.value;
+      did = twice_did p _ _ range c.first_beyond.ensures.did _ c.first_again.ensures.did;
     }
 
 pub returns-in-Some-tail-set : goal.returns-in-Some-tail-set
@@ -17,8 +17,8 @@ returns-in-Some-tail-set g c =
     let range = c.in-default.ensures.value in
     let apart = c.in-default-first-again.ensures.value in
     record {
-      value = tail_value p _ _ range c.first-beyond.ensures.did _ apart c.first-again.ensures.did (Some _) c.in-Some-tail-set.ensures.value;
-      did = tail_did p _ _ range c.first-beyond.ensures.did _ apart c.first-again.ensures.did _ c.tail-set.ensures.did;
+      value = tail_value p _ _ range c.first_beyond.ensures.did _ apart c.first_again.ensures.did (Some _) c.in-Some-tail-set.ensures.value;
+      did = tail_did p _ _ range c.first_beyond.ensures.did _ apart c.first_again.ensures.did _ c.tail_set.ensures.did;
     }
 
 pub returns : goal.returns
@@ -27,6 +27,6 @@ returns g c =
     let range = c.in-default.ensures.value in
     let apart = c.in-default-first-again.ensures.value in
     record {
-      value = tail_value p _ _ range c.first-beyond.ensures.did _ apart c.first-again.ensures.did None c.in-default-tail-set.ensures.value;
-      did = tail_did p _ _ range c.first-beyond.ensures.did _ apart c.first-again.ensures.did _ c.tail-set.ensures.did;
+      value = tail_value p _ _ range c.first_beyond.ensures.did _ apart c.first_again.ensures.did None c.in-default-tail-set.ensures.value;
+      did = tail_did p _ _ range c.first_beyond.ensures.did _ apart c.first_again.ensures.did _ c.tail_set.ensures.did;
     }

@@ -7,26 +7,26 @@ use Rattle.keybox.proofs.seal.publish_syndrome.Goals as goal
 pub put-within-requires : goal.put-within-requires
 put-within-requires g c =
     let long = simp length_over at (ap size c.rest.ensures) in
-    omega (arith, c.work-row.ensures.value)
+    omega (arith, c.work_row.ensures.value)
 
 pub sum-count-requires : goal.sum-count-requires
 sum-count-requires g c =
     record {
-      fits = sum_fits c.args.profile.now _ _ _ _ _ c.seal_plan.ensures c.work-row.ensures.value c.requires.room c.requires.passed c.rest.ensures c.put-within.ensures.did;
+      fits = sum_fits c.args.profile.now _ _ _ _ _ c.seal_plan.ensures c.work_row.ensures.value c.requires.room c.requires.passed c.rest.ensures c.put_within.ensures.did;
       next = omega (arith, ap (λ q. q.count) c.seal_plan.ensures);
     }
 
 pub publish-requires : goal.publish-requires
 publish-requires g c =
     let a = simp length_over at (ap size c.rest.ensures) in
-    let b = simp length-set at (ap size c.put-within.ensures.did) in
+    let b = simp length-set at (ap size c.put_within.ensures.did) in
     let d = simp length_over at (ap size c.sum-count.ensures.did) in
     record { room = record { zones = omega arith; limit = omega arith }; row = omega arith }
 
 pub rest-requires-2 : goal.rest-requires-2
 rest-requires-2 g c =
     let a = simp length_over at (ap size c.rest.ensures) in
-    let b = simp length-set at (ap size c.put-within.ensures.did) in
+    let b = simp length-set at (ap size c.put_within.ensures.did) in
     let d = simp length_over at (ap size c.sum-count.ensures.did) in
     let e = simp length_over at (ap size c.publish.ensures) in
     record { zones = omega arith; limit = omega arith }
@@ -35,6 +35,6 @@ pub returns : goal.returns
 returns g c =
     record {
       value = c.sum-count.ensures.count ∙ omega (arith, ap (λ q. q.count) c.seal_plan.ensures);
-      did = sealed_is c.args.profile.now _ _ _ _ _ c.seal_plan.ensures c.work-row.ensures.value c.requires.room c.requires.passed
-          c.rest.ensures c.put-within.ensures.did _ _ _ c.sum-count.ensures.did c.publish.ensures c.rest-2.ensures;
+      did = sealed_is c.args.profile.now _ _ _ _ _ c.seal_plan.ensures c.work_row.ensures.value c.requires.room c.requires.passed
+          c.rest.ensures c.put_within.ensures.did _ _ _ c.sum-count.ensures.did c.publish.ensures c.rest-2.ensures;
     }

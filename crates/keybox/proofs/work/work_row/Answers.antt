@@ -4,7 +4,7 @@ use Rattle.keybox.proofs.work.work_row.Goals as goal
 
 pub returns : goal.returns
 returns c =
-    let at = c.work-at.ensures.value in
+    let at = c.work_at.ensures.value in
     let wide = c.width.ensures.value in
     let few : c.args.i ≤ 11 = omega arith in
     let narrow : c.width.result ≤ 500 = omega arith in

@@ -7,13 +7,13 @@ use Rattle.rows.proofs.fill.copy.Goals as goal
 pub loop-w-init : goal.loop-w-init
 loop-w-init g c = copied_none _ _ _
 
-pub get-within-word-requires : goal.get-within-word-requires
-get-within-word-requires g c = omega (arith, simp length_over at (ap size c.loop-w.invariant))
+pub get_within-word-requires : goal.get_within-word-requires
+get_within-word-requires g c = omega (arith, simp length_over at (ap size c.loop-w.invariant))
 
-pub put-within-requires : goal.put-within-requires
-put-within-requires g c =
-    omega (arith, simp length_over at (ap size c.loop-w.invariant), ap size c.get-within-word.ensures.did)
+pub put_within-requires : goal.put_within-requires
+put_within-requires g c =
+    omega (arith, simp length_over at (ap size c.loop-w.invariant), ap size c.get_within-word.ensures.did)
 
 pub loop-w-preserved : goal.loop-w-preserved
 loop-w-preserved g c =
-    copied_more _ _ _ _ _ _ _ _ _ c.requires.apart c.loop-w-test.true c.requires.source c.loop-w.invariant c.get-within-word.ensures.did c.get-within-word.ensures.value c.put-within.ensures.did
+    copied_more _ _ _ _ _ _ _ _ _ c.requires.apart c.loop-w-test.true c.requires.source c.loop-w.invariant c.get_within-word.ensures.did c.get_within-word.ensures.value c.put_within.ensures.did

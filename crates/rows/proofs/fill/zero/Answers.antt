@@ -7,8 +7,8 @@ use Rattle.rows.proofs.fill.zero.Goals as goal
 pub loop-w-init : goal.loop-w-init
 loop-w-init g c = zeroed_none _ _
 
-pub put-within-requires : goal.put-within-requires
-put-within-requires g c = omega (arith, simp length_over at (ap size c.loop-w.invariant))
+pub put_within-requires : goal.put_within-requires
+put_within-requires g c = omega (arith, simp length_over at (ap size c.loop-w.invariant))
 
 pub loop-w-preserved : goal.loop-w-preserved
-loop-w-preserved g c = zeroed_more _ _ _ _ _ c.loop-w.invariant c.put-within.ensures.did
+loop-w-preserved g c = zeroed_more _ _ _ _ _ c.loop-w.invariant c.put_within.ensures.did

@@ -10,4 +10,4 @@ is_chosen zero a b mask hd ha hb hm e = masked_none a b mask (omega arith)
 is_chosen (suc d) a b mask hd ha hb hm e = masked_all 32 a b mask ha hb (omega arith)
 
 pub returns : goal.returns
-returns c = record { value = is_chosen _ _ _ _ c.requires.digit (omega arith) (omega arith) c.wrapping-neg-mask.type-inv c.wrapping-neg-mask.ensures }
+returns c = record { value = is_chosen _ _ _ _ c.requires.digit (omega arith) (omega arith) c.wrapping_neg-mask.type_inv c.wrapping_neg-mask.ensures }

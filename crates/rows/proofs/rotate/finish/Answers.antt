@@ -6,29 +6,29 @@ use Rattle.rows.proofs.Sliding.{slid_whole, slide_none, slide_more, slide_all}
 use Rattle.rows.proofs.rotate.finish.Goals as goal
 
 pub loop-w-init : goal.loop-w-init
-loop-w-init g c = slide_none _ _ _ _ _ _ c.get-within-lo.ensures.did c.get-within-lo.ensures.value
+loop-w-init g c = slide_none _ _ _ _ _ _ c.get_within-lo.ensures.did c.get_within-lo.ensures.value
 
-pub get-within-hi-requires : goal.get-within-hi-requires
-get-within-hi-requires g c = omega (arith, ap size c.get-within-lo.ensures.did, simp length_filled at (ap size c.loop-w.invariant.did))
+pub get_within-hi-requires : goal.get_within-hi-requires
+get_within-hi-requires g c = omega (arith, ap size c.get_within-lo.ensures.did, simp length_filled at (ap size c.loop-w.invariant.did))
 
-pub put-within-requires : goal.put-within-requires
-put-within-requires g c =
-    omega (arith, ap size c.get-within-lo.ensures.did, simp length_filled at (ap size c.loop-w.invariant.did), ap size c.get-within-hi.ensures.did)
+pub put_within-requires : goal.put_within-requires
+put_within-requires g c =
+    omega (arith, ap size c.get_within-lo.ensures.did, simp length_filled at (ap size c.loop-w.invariant.did), ap size c.get_within-hi.ensures.did)
 
 pub loop-w-preserved : goal.loop-w-preserved
 loop-w-preserved g c =
-    slide_more _ _ _ _ _ _ _ _ _ _ _ c.loop-w.invariant c.get-within-hi.ensures.did c.get-within-hi.ensures.value
-    (c.slide.ensures.value ∙ slid_whole _ _ _ _ _ (omega arith)) c.put-within.ensures.did
+    slide_more _ _ _ _ _ _ _ _ _ _ _ c.loop-w.invariant c.get_within-hi.ensures.did c.get_within-hi.ensures.value
+    (c.slide.ensures.value ∙ slid_whole _ _ _ _ _ (omega arith)) c.put_within.ensures.did
 
-pub get-within-top-requires : goal.get-within-top-requires
-get-within-top-requires g c = omega (arith, ap size c.get-within-lo.ensures.did, simp length_filled at (ap size c.loop-w.invariant.did))
+pub get_within-top-requires : goal.get_within-top-requires
+get_within-top-requires g c = omega (arith, ap size c.get_within-lo.ensures.did, simp length_filled at (ap size c.loop-w.invariant.did))
 
-pub put-within-requires-2 : goal.put-within-requires-2
-put-within-requires-2 g c =
-    omega (arith, ap size c.get-within-lo.ensures.did, simp length_filled at (ap size c.loop-w.invariant.did), ap size c.get-within-top.ensures.did)
+pub put_within-requires-2 : goal.put_within-requires-2
+put_within-requires-2 g c =
+    omega (arith, ap size c.get_within-lo.ensures.did, simp length_filled at (ap size c.loop-w.invariant.did), ap size c.get_within-top.ensures.did)
 
 pub returns : goal.returns
 returns g c = record {
-  did = slide_all _ _ _ _ _ _ _ _ _ _ _ _ _ _ _ (omega arith) (omega arith) (omega arith) c.get-within-lo.ensures.did c.loop-w.invariant c.get-within-top.ensures.did c.get-within-top.ensures.value
-      c.slide-2.ensures.value c.lowest.ensures.value c.put-within-2.ensures.did;
+  did = slide_all _ _ _ _ _ _ _ _ _ _ _ _ _ _ _ (omega arith) (omega arith) (omega arith) c.get_within-lo.ensures.did c.loop-w.invariant c.get_within-top.ensures.did c.get_within-top.ensures.value
+      c.slide-2.ensures.value c.lowest.ensures.value c.put_within-2.ensures.did;
 }

@@ -21,10 +21,10 @@ is_moved y s k v mask one ev hy hm ho e =
           masked_all 64 (y / 2 ^ v) y mask hz hy (omega arith) ∙ ap (λ z. y / 2 ^ z) (sym all)
     ]
 
-pub overflow-shr-result : goal.overflow-shr-result
-overflow-shr-result c = omega (arith, one_shl c.args.k 32 (omega arith), pow_below c.args.k 6 c.requires.digit)
+pub overflow_shr-result : goal.overflow_shr-result
+overflow_shr-result c = omega (arith, one_shl c.args.k 32 (omega arith), pow_below c.args.k 6 c.requires.digit)
 
 pub returns : goal.returns
 returns c = record {
-  value = is_moved _ _ _ _ _ _ (one_shl c.args.k 32 (omega arith)) (omega arith) c.wrapping-neg-mask.type-inv c.requires.one c.wrapping-neg-mask.ensures;
+  value = is_moved _ _ _ _ _ _ (one_shl c.args.k 32 (omega arith)) (omega arith) c.wrapping_neg-mask.type_inv c.requires.one c.wrapping_neg-mask.ensures;
 }

@@ -9,8 +9,8 @@ use Rattle.rows.proofs.Stages.{ahead_all, ahead_less}
 use Rattle.rows.proofs.Turning.{row_tail, digits_needed, turned_all}
 use Rattle.rows.proofs.rotate.rotate.Goals as goal
 
-pub lay-twice-requires : goal.lay-twice-requires
-lay-twice-requires g c = record {
+pub lay_twice-requires : goal.lay_twice-requires
+lay_twice-requires g c = record {
   limit = omega arith;
   long = omega arith;
   size = refl;
@@ -25,33 +25,33 @@ loop-e-init g c = ahead_all _ _ _ _ _
 
 pub stage-requires : goal.stage-requires
 stage-requires g c =
-    let long = simp length_filled at (ap size c.lay-twice.ensures.did) in
+    let long = simp length_filled at (ap size c.lay_twice.ensures.did) in
     let e : ℕ = c.loop-e.e - 1 in
     record {
       limit = omega (arith, c.loop-e.invariant.long);
       space = omega (arith, c.loop-e.invariant.long);
       by = omega (arith, one_shl e 32 (omega arith), digits_needed (width c.args.r) e (omega arith) (omega arith) (omega arith));
-      digit = omega (arith, digit_is (c.opposite-down.result / 32) e c.hidden-one-one.result c.hidden-one-one.ensures.value);
+      digit = omega (arith, digit_is (c.opposite-down.result / 32) e c.hidden_one-one.result c.hidden_one-one.ensures.value);
     }
 
 pub loop-e-preserved : goal.loop-e-preserved
 loop-e-preserved g c =
-    ahead_less _ _ _ _ _ _ _ _ _ _ _ (omega arith) (one_shl (c.loop-e.e - 1) 32 (omega arith)) (digit_is _ _ _ c.hidden-one-one.ensures.value) c.loop-e.invariant c.stage.ensures.did
+    ahead_less _ _ _ _ _ _ _ _ _ _ _ (omega arith) (one_shl (c.loop-e.e - 1) 32 (omega arith)) (digit_is _ _ _ c.hidden_one-one.ensures.value) c.loop-e.invariant c.stage.ensures.did
 
 pub finish-requires : goal.finish-requires
 finish-requires g c =
-    let long = simp length_filled at (ap size c.lay-twice.ensures.did) in
+    let long = simp length_filled at (ap size c.lay_twice.ensures.did) in
     record {
       limit = omega (arith, c.loop-e.invariant.long);
       long = omega arith;
       size = refl;
       space = omega (arith, c.loop-e.invariant.long);
-      one = c.hidden-one-one.ensures.value;
+      one = c.hidden_one-one.ensures.value;
     }
 
 pub zero-requires : goal.zero-requires
 zero-requires g c =
-    let long = simp length_filled at (ap size c.lay-twice.ensures.did) in
+    let long = simp length_filled at (ap size c.lay_twice.ensures.did) in
     let last = simp length_filled at (ap size c.finish.ensures.did) in
     record {
       limit = omega (arith, c.loop-e.invariant.long);
@@ -62,5 +62,5 @@ pub returns : goal.returns
 returns g c = record {
   count = refl;
   did = turned_all _ _ _ _ _ _ _ _ _ _ _ (omega arith) (omega arith) (row_tail _ _ _ (omega arith) c.requires.fits.tail) c.opposite-down.ensures.value (omega arith) (omega arith)
-      c.lay-twice.ensures.did c.loop-e.invariant c.finish.ensures.did c.zero.ensures.did;
+      c.lay_twice.ensures.did c.loop-e.invariant c.finish.ensures.did c.zero.ensures.did;
 }

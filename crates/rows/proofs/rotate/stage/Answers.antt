@@ -9,20 +9,20 @@ use Rattle.rows.proofs.rotate.stage.Goals as goal
 pub loop-w-init : goal.loop-w-init
 loop-w-init g c = stage_none _ _ _ _
 
-pub get-within-far-requires : goal.get-within-far-requires
-get-within-far-requires g c = omega (arith, simp length_filled at (ap size c.loop-w.invariant))
+pub get_within-far-requires : goal.get_within-far-requires
+get_within-far-requires g c = omega (arith, simp length_filled at (ap size c.loop-w.invariant))
 
-pub get-within-near-requires : goal.get-within-near-requires
-get-within-near-requires g c = omega (arith, simp length_filled at (ap size c.loop-w.invariant), ap size c.get-within-far.ensures.did)
+pub get_within-near-requires : goal.get_within-near-requires
+get_within-near-requires g c = omega (arith, simp length_filled at (ap size c.loop-w.invariant), ap size c.get_within-far.ensures.did)
 
-pub put-within-requires : goal.put-within-requires
-put-within-requires g c =
-    omega (arith, simp length_filled at (ap size c.loop-w.invariant), ap size c.get-within-far.ensures.did, ap size c.get-within-near.ensures.did)
+pub put_within-requires : goal.put_within-requires
+put_within-requires g c =
+    omega (arith, simp length_filled at (ap size c.loop-w.invariant), ap size c.get_within-far.ensures.did, ap size c.get_within-near.ensures.did)
 
 pub loop-w-preserved : goal.loop-w-preserved
 loop-w-preserved g c =
-    stage_more _ _ _ _ _ _ _ _ _ _ _ _ c.loop-w.invariant c.get-within-far.ensures.did c.get-within-far.ensures.value
-    c.get-within-near.ensures.did c.get-within-near.ensures.value c.select.ensures.value c.put-within.ensures.did
+    stage_more _ _ _ _ _ _ _ _ _ _ _ _ c.loop-w.invariant c.get_within-far.ensures.did c.get_within-far.ensures.value
+    c.get_within-near.ensures.did c.get_within-near.ensures.value c.select.ensures.value c.put_within.ensures.did
 
 pub returns : goal.returns
 returns g c =

@@ -7,16 +7,16 @@ use Rattle.rows.proofs.sum.step.Goals as goal
 
 pub rotate-next-requires : goal.rotate-next-requires
 rotate-next-requires g c = record {
-  fits = turnable g.L.Lanes.depth c.args.plan _ _ _ c.get-within-word.result _ _ _ c.requires.fits (ap words_of c.get-within-word.ensures.did) (ap words_of c.choose-from.ensures.did) c.choose-from.ensures.from c.choose-from.ensures.position c.turn_by.ensures.value;
+  fits = turnable g.L.Lanes.depth c.args.plan _ _ _ c.get_within-word.result _ _ _ c.requires.fits (ap words_of c.get_within-word.ensures.did) (ap words_of c.choose-from.ensures.did) c.choose-from.ensures.from c.choose-from.ensures.position c.turn-by.ensures.value;
   next = c.requires.next;
 }
 
-pub overflow-add-plan-2 : goal.overflow-add-plan-2
-overflow-add-plan-2 g c = omega (arith, width_small g.L.Lanes.depth c.args.plan _ c.requires.fits)
+pub overflow_add-plan-2 : goal.overflow_add-plan-2
+overflow_add-plan-2 g c = omega (arith, width_small g.L.Lanes.depth c.args.plan _ c.requires.fits)
 
-pub add-row-requires : goal.add-row-requires
-add-row-requires g c =
-    let got = ap size c.get-within-word.ensures.did in
+pub add_row-requires : goal.add_row-requires
+add_row-requires g c =
+    let got = ap size c.get_within-word.ensures.did in
     let chose = simp length_chosen at (ap size c.choose-from.ensures.did) in
     let turned = simp length_over at (ap size c.rotate-next.ensures.did) in
     let row = row_within g.L.Lanes.depth c.args.plan _ c.requires.fits in
@@ -25,6 +25,6 @@ add-row-requires g c =
 pub returns : goal.returns
 returns g c = record {
   count = c.rotate-next.ensures.count;
-  words = step_left g.L.Lanes.add g.L.Lanes.depth c.args.plan c.args.i _ _ _ _ _ c.get-within-word.result _ _ _ c.get-within-word.ensures.did c.get-within-word.ensures.value c.choose-from.ensures.did c.choose-from.ensures.from c.choose-from.ensures.position c.turn_by.ensures.value c.rotate-next.ensures.did c.add-row.ensures.did c.requires.fits;
-  did = step_did g.L.Lanes.add g.L.Lanes.depth c.args.plan c.args.i _ _ _ _ _ c.get-within-word.result _ _ _ c.get-within-word.ensures.did c.get-within-word.ensures.value c.choose-from.ensures.did c.choose-from.ensures.from c.choose-from.ensures.position c.turn_by.ensures.value c.rotate-next.ensures.did c.add-row.ensures.did;
+  words = step_left g.L.Lanes.add g.L.Lanes.depth c.args.plan c.args.i _ _ _ _ _ c.get_within-word.result _ _ _ c.get_within-word.ensures.did c.get_within-word.ensures.value c.choose-from.ensures.did c.choose-from.ensures.from c.choose-from.ensures.position c.turn-by.ensures.value c.rotate-next.ensures.did c.add_row.ensures.did c.requires.fits;
+  did = step_did g.L.Lanes.add g.L.Lanes.depth c.args.plan c.args.i _ _ _ _ _ c.get_within-word.result _ _ _ c.get_within-word.ensures.did c.get_within-word.ensures.value c.choose-from.ensures.did c.choose-from.ensures.from c.choose-from.ensures.position c.turn-by.ensures.value c.rotate-next.ensures.did c.add_row.ensures.did;
 }

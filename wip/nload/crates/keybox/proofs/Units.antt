@@ -3,7 +3,7 @@ use Rattle.std.proofs.Common.{◌≡◌, ℕ, zero, suc, ◌+◌, ◌*◌, ◌/�
 use lib.Bits.{bit_or, bit_xor, or_add_and, xor_self, xor_zero_r, xor_assoc, and_le_r}
 use Rattle.std.specs.List.{range_with_len}
 use Rattle.std.proofs.lemmas.List.FromFn.{length-map-range_with_len, get_or-map-range_with_len}
-use Rattle.std.proofs.lemmas.List.Sums.{sum_by_cons}
+use Rattle.std.proofs.lemmas.List.Sums.{sum_by-cons}
 use Rattle.std.proofs.lemmas.Bool.{cases_eq, cases_lt, cases_Bool, eq-eqb, ne_eqb, eqb-true, and_parts, and_from, lt-ltb, le-ltb, both_ways}
 use Rattle.rows.specs.Rows.{Row, bit_of, packed, unit, plus, weight, is_none, cut, row_at, width, word_of, words_of}
 use Rattle.rows.proofs.Bits.{packed_bit, packed_same, packed_of}
@@ -131,7 +131,7 @@ unit_words_are r some =
 none_sum : (x : Row) (a n : ℕ) → ((j : ℕ) → a ≤ j → j < a + n → x j ≡ 0) → sum_by x (range_with_len a n) ≡ 0
 none_sum x a zero h = refl
 none_sum x a (suc n) h =
-    omega (arith, sum_by_cons x a (range_with_len (a + 1) n), h a (omega arith) (omega arith), none_sum x (a + 1) n (λ j l k. h j (omega arith) (omega arith)))
+    omega (arith, sum_by-cons x a (range_with_len (a + 1) n), h a (omega arith) (omega arith), none_sum x (a + 1) n (λ j l k. h j (omega arith) (omega arith)))
 
 -- the words of a row are those of the row of bit 0 alone exactly where no bit differs from it
 pub unit_words : (r : ℕ) (x : Row) → 1 ≤ r → ((j : ℕ) → j < r → x j < 2) → is_unit (words_of r x) ≡ is_none r (plus unit x)

@@ -5,7 +5,7 @@ use Rattle.std.specs.List.{range_with_len, AllByRecursion as All}
 use Rattle.std.proofs.lemmas.List.FromFn.{length-map-range_with_len, get_or-map-range_with_len}
 use Rattle.std.proofs.lemmas.Nat.{mod_below, pow_below}
 use Rattle.std.proofs.ByRecursion.{All-weaker}
-use Rattle.std.proofs.lemmas.List.Sums.{sum_by_cons}
+use Rattle.std.proofs.lemmas.List.Sums.{sum_by-cons}
 use Rattle.std.proofs.lemmas.Bool.{cases_lt, cases_eq, lt-ltb, le-ltb, lt-leb, eq-eqb, ne_eqb}
 use Rattle.memory.specs.Words.{over, zeros}
 use Rattle.rows.specs.declared.plan.Direction.{Direction}
@@ -27,20 +27,20 @@ parity n b = (n + b) % 2
 -- bits added one by one modulo 2 are their sum modulo 2
 summed_parity : (xs : List Row) (n j : ℕ) → summed parity n xs j % 2 ≡ (n + sum_by (λ x. x j) xs) % 2
 summed_parity [] n j = ap (λ (m : ℕ). m % 2) (omega arith)
-summed_parity (x ∷ xs) n j = summed_parity xs ((n + x j) % 2) j ∙ omega (arith, sum_by_cons (λ y. y j) x xs)
+summed_parity (x ∷ xs) n j = summed_parity xs ((n + x j) % 2) j ∙ omega (arith, sum_by-cons (λ y. y j) x xs)
 
 sum_map : (f : ℕ → Row) (ps : List ℕ) (j : ℕ) → sum_by (λ x. x j) (map f ps) ≡ sum_by (λ q. f q j) ps
 sum_map f [] j = refl
 sum_map f (q ∷ qs) j =
-    sum_by_cons (λ (x : Row). x j) (f q) (map f qs) ∙ ap (λ (m : ℕ). f q j + m) (sum_map f qs j) ∙ sym (sum_by_cons (λ q. f q j) q qs)
+    sum_by-cons (λ (x : Row). x j) (f q) (map f qs) ∙ ap (λ (m : ℕ). f q j + m) (sum_map f qs j) ∙ sym (sum_by-cons (λ q. f q j) q qs)
 
 sum_same : (f g : ℕ → ℕ) (ps : List ℕ) → All (λ q. f q ≡ g q) ps → sum_by f ps ≡ sum_by g ps
 sum_same f g [] h = refl
-sum_same f g (q ∷ qs) h = sum_by_cons f q qs ∙ ap₂ (λ (m n : ℕ). m + n) h.0 (sum_same f g qs h.1) ∙ sym (sum_by_cons g q qs)
+sum_same f g (q ∷ qs) h = sum_by-cons f q qs ∙ ap₂ (λ (m n : ℕ). m + n) h.0 (sum_same f g qs h.1) ∙ sym (sum_by-cons g q qs)
 
 sum_none : (f : ℕ → ℕ) (ps : List ℕ) → ((q : ℕ) → f q ≡ 0) → sum_by f ps ≡ 0
 sum_none f [] h = refl
-sum_none f (q ∷ qs) h = sum_by_cons f q qs ∙ ap₂ (λ (m n : ℕ). m + n) (h q) (sum_none f qs h)
+sum_none f (q ∷ qs) h = sum_by-cons f q qs ∙ ap₂ (λ (m n : ℕ). m + n) (h q) (sum_none f qs h)
 
 -- the words of a row depend on its r bits alone
 pub words_same : (r : ℕ) (x y : Row) → ((j : ℕ) → j < r → x j ≡ y j) → words_of r x ≡ words_of r y

@@ -4,7 +4,7 @@ use Rattle.std.proofs.Common.{◌≡◌, ℕ, zero, suc, ◌+◌, ◌*◌, ◌%�
 use mathlib.Core.Path.{fun_ext}
 use native.Mathlib.Nat.{div-add-mod}
 use Rattle.std.specs.List.{range_with_len, AllByRecursion as All}
-use Rattle.std.proofs.lemmas.List.Sums.{sum_by_cons}
+use Rattle.std.proofs.lemmas.List.Sums.{sum_by-cons}
 use Rattle.std.proofs.ByRecursion.{All-from_get_or}
 use Rattle.std.proofs.lemmas.List.FromFn.{length-range_with_len, get_or-range_with_len}
 
@@ -22,20 +22,20 @@ module _ {X : Type 0} where
   -- sums agree modulo 2 where their summands do
   pub sum_alike : (f g : X → ℕ) (xs : List X) → All (λ x. f x % 2 ≡ g x % 2) xs → sum_by f xs % 2 ≡ sum_by g xs % 2
   sum_alike f g [] h = refl
-  sum_alike f g (x ∷ xs) h = let rest = sum_alike f g xs h.1 in omega (arith, sum_by_cons f x xs, sum_by_cons g x xs, h.0)
+  sum_alike f g (x ∷ xs) h = let rest = sum_alike f g xs h.1 in omega (arith, sum_by-cons f x xs, sum_by-cons g x xs, h.0)
 
   pub sum_plus : (f g : X → ℕ) (xs : List X) → sum_by (λ x. f x + g x) xs ≡ sum_by f xs + sum_by g xs
   sum_plus f g [] = refl
   sum_plus f g (x ∷ xs) =
       let rest = sum_plus f g xs in
-      omega (arith, sum_by_cons (λ y. f y + g y) x xs, sum_by_cons f x xs, sum_by_cons g x xs)
+      omega (arith, sum_by-cons (λ y. f y + g y) x xs, sum_by-cons f x xs, sum_by-cons g x xs)
 
   -- a factor goes into a sum
   sum_scaled : (c : ℕ) (f : X → ℕ) (xs : List X) → c * sum_by f xs ≡ sum_by (λ x. c * f x) xs
   sum_scaled c f [] = omega arith
   sum_scaled c f (x ∷ xs) =
       let rest = sum_scaled c f xs in
-      omega (arith, sum_by_cons (λ y. c * f y) x xs, ap (λ n. c * n) (sum_by_cons f x xs))
+      omega (arith, sum_by-cons (λ y. c * f y) x xs, ap (λ n. c * n) (sum_by-cons f x xs))
 
   pub sum_times : (c : ℕ) (f : X → ℕ) (xs : List X) → c * (sum_by f xs % 2) % 2 ≡ sum_by (λ x. c * f x) xs % 2
   sum_times c f xs = times_parity c (sum_by f xs) ∙ parity (sum_scaled c f xs)
@@ -45,8 +45,8 @@ pub sum_sum : {X Y : Type 0} (f : X → Y → ℕ) (xs : List X) (ys : List Y) �
 sum_sum f [] ys = omega (arith, sum_scaled 0 (λ y. 0) ys)
 sum_sum f (x ∷ xs) ys =
     let rest = sum_sum f xs ys in
-    let more = ap (λ g. sum_by g ys) (fun_ext (λ y. sum_by_cons (λ z. f z y) x xs)) in
-    omega (arith, more, sum_by_cons (λ z. sum_by (f z) ys) x xs, sum_plus (f x) (λ y. sum_by (λ z. f z y) xs) ys)
+    let more = ap (λ g. sum_by g ys) (fun_ext (λ y. sum_by-cons (λ z. f z y) x xs)) in
+    omega (arith, more, sum_by-cons (λ z. sum_by (f z) ys) x xs, sum_plus (f x) (λ y. sum_by (λ z. f z y) xs) ys)
 
 pub all_below : (P : ℕ → Type 0) (n : ℕ) → ((q : ℕ) → q < n → P q) → All P (range_with_len 0 n)
 all_below P n h = All-from_get_or P (range_with_len 0 n) 0 (λ i l. here i (omega (arith, length-range_with_len 0 n)))
@@ -62,7 +62,7 @@ sum_at_from : (f : ℕ → ℕ) (a n k : ℕ) → sum_by (λ q. f q * at k q) (r
 sum_at_from f a zero k = grind arith
 sum_at_from f a (suc n) k =
     let rest = sum_at_from f (a + 1) n k in
-    let more = sum_by_cons (λ q. f q * at k q) a (range_with_len (a + 1) n) in
+    let more = sum_by-cons (λ q. f q * at k q) a (range_with_len (a + 1) n) in
     grind arith
 
 pub sum_at : (f : ℕ → ℕ) (n k : ℕ) → k < n → sum_by (λ q. f q * at k q) (range_with_len 0 n) ≡ f k

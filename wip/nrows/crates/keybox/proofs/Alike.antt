@@ -3,7 +3,7 @@
 use Rattle.std.proofs.Common.{◌≡◌, ℕ, ◌+◌, ◌-◌, ◌*◌, ◌%◌, ◌≤◌, Bool, cond, ◌&&◌, eqb, ltb, leb, List, [], ◌∷◌, ◌++◌, map, take, fold, sum_by, refl, ap, ap₂, inl, inr, mod-lt, arith}
 use mathlib.Core.Path.{fun_ext}
 use Rattle.std.specs.List.{range_with_len, AllByRecursion as All}
-use Rattle.std.proofs.lemmas.List.Sums.{sum_by_cons}
+use Rattle.std.proofs.lemmas.List.Sums.{sum_by-cons}
 use Rattle.std.proofs.lemmas.Bool.{cases_Bool, ltb-true}
 use Rattle.rows.specs.Rows.{Row, plus, rotated, product, count, weight, is_none, kept, support, packed, cut, width, words_of}
 use Rattle.rows.specs.Ring.{Same}
@@ -16,7 +16,7 @@ sum_same : (f g : ℕ → ℕ) (xs : List ℕ) → All (λ x. f x ≡ g x) xs �
 sum_same f g [] h = refl
 sum_same f g (x ∷ xs) h =
     let rest = sum_same f g xs h.1 in
-    omega (arith, sum_by_cons f x xs, sum_by_cons g x xs, h.0)
+    omega (arith, sum_by-cons f x xs, sum_by-cons g x xs, h.0)
 
 kept_same : (p q : ℕ → Bool) (xs : List ℕ) → All (λ x. p x ≡ q x) xs → kept p xs ≡ kept q xs
 kept_same p q [] h = refl

@@ -3,7 +3,7 @@ use Rattle.std.proofs.Common.{◌≡◌, ℕ, zero, suc, ◌+◌, ◌-◌, ◌*�
 use lib.Bits.{bit_or, or_step}
 use lib.Count.{ones, ones_step, ones-ones}
 use Rattle.std.specs.List.{range_with_len, AllByRecursion as All}
-use Rattle.std.proofs.lemmas.List.Sums.{sum_by_cons, sum_by_push}
+use Rattle.std.proofs.lemmas.List.Sums.{sum_by-cons, sum_by_push}
 use Rattle.std.proofs.lemmas.Bool.{cases_lt, cases_eq, lt-ltb, le-ltb, eq-eqb, ne_eqb}
 use Rattle.rows.specs.Rows.{Row, cut, width, weight, is_none, word_of, words_of}
 use Rattle.rows.proofs.Bits.{packed_ones}
@@ -42,7 +42,7 @@ below_words f (suc n) =
 sum_each : (g f : ℕ → ℕ) (xs : List ℕ) → sum_by g (map f xs) ≡ sum_by (λ x. g (f x)) xs
 sum_each g f [] = refl
 sum_each g f (x ∷ xs) =
-    sum_by_cons g (f x) (map f xs) ∙ ap (λ (n : ℕ). g (f x) + n) (sum_each g f xs) ∙ sym (sum_by_cons (λ y. g (f y)) x xs)
+    sum_by-cons g (f x) (map f xs) ∙ ap (λ (n : ℕ). g (f x) + n) (sum_each g f xs) ∙ sym (sum_by-cons (λ y. g (f y)) x xs)
 
 -- ---- the weight
 
@@ -85,12 +85,12 @@ any_none [] z e = (e, refl)
 any_none (x ∷ xs) z e =
     let rest = any_none xs (bit_or z x) e in
     let both = or_none (z + x) z x (omega arith) (omega arith) rest.0 in
-    (both.0, sum_by_cons ones x xs ∙ omega (arith, ap ones both.1, ones-ones 0, rest.1))
+    (both.0, sum_by-cons ones x xs ∙ omega (arith, ap ones both.1, ones-ones 0, rest.1))
 
 none_any : (xs : List ℕ) (z : ℕ) → z ≡ 0 → sum_by ones xs ≡ 0 → fold bit_or z xs ≡ 0
 none_any [] z h e = h
 none_any (x ∷ xs) z h e =
-    let more = sum_by_cons ones x xs in
+    let more = sum_by-cons ones x xs in
     let none : x ≡ 0 = ones_none x x (omega arith) (omega (arith, more, e)) in
     none_any xs (bit_or z x) (ap₂ bit_or h none) (omega (arith, more, e))
 

@@ -4,7 +4,7 @@ use Rattle.keybox.proofs.Written.{length_words}
 use lib.ListN.{length-replicate}
 use Rattle.std.specs.List.{range_with_len, AllByRecursion as All}
 use Rattle.std.proofs.lemmas.Nat.{mod_below}
-use Rattle.std.proofs.lemmas.List.Sums.{sum_by_cons}
+use Rattle.std.proofs.lemmas.List.Sums.{sum_by-cons}
 use Rattle.memory.specs.Words.{over, zeros}
 use Rattle.memory.proofs.Words.{length_over, over-out, zeros-out, zeros-comm, zeros-inside}
 use Rattle.rows.specs.declared.plan.Direction.TheVariants.{Up, Down}
@@ -49,8 +49,8 @@ module _ (r a : ℕ) (ws : List ℕ) (x : Row) (row : (j : ℕ) → j < r → ro
   product_up [] j l = refl
   product_up (q ∷ qs) j l =
       let here : added r Up (One a) ws q j ≡ rotated r (as_position r q) x j = rotated_same r (as_position r q) (row_at ws a) x j (omega arith) row ∙ cut_in r (rotated r (as_position r q) x) j l in
-      sum_by_cons (λ q. added r Up (One a) ws q j) q qs ∙ ap₂ (λ (m n : ℕ). m + n) here (product_up qs j l)
-      ∙ sym (sum_by_cons (λ q. rotated r q x j) (as_position r q) (map (as_position r) qs))
+      sum_by-cons (λ q. added r Up (One a) ws q j) q qs ∙ ap₂ (λ (m n : ℕ). m + n) here (product_up qs j l)
+      ∙ sym (sum_by-cons (λ q. rotated r q x j) (as_position r q) (map (as_position r) qs))
 
 module _ (p : Profile) (base : List ℕ) (v : Halves) (s : Row) (room : N p ≤ length base) (left : Bits p.r v.left) (right : Bits p.r v.right) (sum : Bits p.r s) (b : ℕ) (h : b < 2) where
   -- the product of half b of the key and half b of the row is added to the syndrome

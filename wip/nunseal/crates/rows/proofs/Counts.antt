@@ -5,7 +5,7 @@ use native.Mathlib.Nat.{mod_self, zero-mod, add-mod_right}
 use Rattle.std.specs.List.{range_with_len}
 use Rattle.std.proofs.lemmas.Nat.{mod_below, pow_pos}
 use Rattle.std.proofs.lemmas.List.FromFn.{length-map-range_with_len, get_or-map-range_with_len}
-use Rattle.std.proofs.lemmas.List.Sums.{sum_by_cons}
+use Rattle.std.proofs.lemmas.List.Sums.{sum_by-cons}
 use Rattle.std.proofs.lemmas.Bool.{cases_lt, cases_eq, lt-ltb, le-ltb, lt-leb, le-leb}
 use Rattle.memory.specs.Words.{over, zeros}
 use Rattle.memory.proofs.Words.{zeros-out, part_at}
@@ -47,7 +47,7 @@ stays_lt n x b = omega (arith, pow_pos n)
 summed_stays : (n : ℕ) (xs : List Row) (x j : ℕ) → x < 2 ^ n → summed (stays n) x xs j ≡ min (2 ^ n - 1) (x + sum_by (λ y. y j) xs)
 summed_stays n [] x j h = omega arith
 summed_stays n (y ∷ ys) x j h =
-    summed_stays n ys (stays n x (y j)) j (stays_lt n x (y j)) ∙ omega (arith, sum_by_cons (λ (z : Row). z j) y ys)
+    summed_stays n ys (stays n x (y j)) j (stays_lt n x (y j)) ∙ omega (arith, sum_by-cons (λ (z : Row). z j) y ys)
 
 -- ---- rows rotated down
 
@@ -75,9 +75,9 @@ added_down r a ws s q j row l =
 count_down : (r a : ℕ) (ws : List ℕ) (s : Row) (qs : List ℕ) (j : ℕ) → ((k : ℕ) → k < r → row_at ws a k ≡ s k) → j < r → sum_by (λ q. added r Down (One a) ws q j) qs ≡ count r (map (as_position r) qs) s j
 count_down r a ws s [] j row l = refl
 count_down r a ws s (q ∷ qs) j row l =
-    sum_by_cons (λ q. added r Down (One a) ws q j) q qs
+    sum_by-cons (λ q. added r Down (One a) ws q j) q qs
     ∙ ap₂ (λ (x y : ℕ). x + y) (added_down r a ws s q j row l) (count_down r a ws s qs j row l)
-    ∙ sym (sum_by_cons (λ p. s ((j + p) % r)) (as_position r q) (map (as_position r) qs))
+    ∙ sym (sum_by-cons (λ p. s ((j + p) % r)) (as_position r q) (map (as_position r) qs))
 
 -- ---- the counts of a row s that lies at a, for the positions that lie at `at`
 module _ (n r at size a into scratch : ℕ) (ws : List ℕ) (s : Row) (f : Fits n (record { r = r; at = at; count = size; source = One a; direction = Down; into = into; scratch = scratch }) ws) (z : (i : ℕ) → i < n * width r → get_or ws (into + i) 0 ≡ 0) (row : (k : ℕ) → k < r → row_at ws a k ≡ s k) where

@@ -4,7 +4,7 @@ use native.Mathlib.Nat.{div-eq_of_lt}
 use Rattle.std.specs.List.{range_with_len}
 use Rattle.std.proofs.lemmas.Nat.{mod_below, pow_below, pow_pos}
 use Rattle.std.proofs.lemmas.List.FromFn.{get_or-map-range_with_len}
-use Rattle.std.proofs.lemmas.List.Sums.{sum_by_cons}
+use Rattle.std.proofs.lemmas.List.Sums.{sum_by-cons}
 use Rattle.std.proofs.lemmas.Bool.{cases_lt, cases_eq, lt-ltb, le-ltb, lt-leb, leb-false, eq-eqb, ne_eqb}
 use Rattle.memory.specs.Words.{over, zeros}
 use Rattle.memory.proofs.Words.{part_at}

@@ -2,7 +2,7 @@
 -- It is v0·(h0·f) = f·(h0·v0) = f·(h1·v1) = v1·(h1·f): the outer factors of a product of three exchange.
 use Rattle.std.proofs.Common.{◌≡◌, ℕ, ◌+◌, ◌*◌, ◌<◌, ◌≤◌, Bool, true, false, cond, eqb, List, [], ◌∷◌, sum_by, sym, refl, ap, ◌∙◌, mod-eq_of_lt, arith}
 use Rattle.std.specs.List.{range_with_len, AllByRecursion as All}
-use Rattle.std.proofs.lemmas.List.Sums.{sum_by_cons}
+use Rattle.std.proofs.lemmas.List.Sums.{sum_by-cons}
 use Rattle.rows.specs.Rows.{Row, none, unit, plus, product, kept, support}
 use Rattle.rows.specs.Ring.{times, Same, Bits, marks}
 use Rattle.rows.proofs.Sums.{at, parity, all_below, below_alike, sum_at}
@@ -18,10 +18,10 @@ all_kept P p (x ∷ xs) h = more (p x) (all_kept P p xs h.1)
 
 sum_kept : (f : ℕ → ℕ) (p : ℕ → Bool) (xs : List ℕ) → sum_by f (kept p xs) ≡ sum_by (λ x. cond (p x) (f x) 0) xs
 sum_kept f p [] = refl
-sum_kept f p (x ∷ xs) = more (p x) ∙ ap (λ n. cond (p x) (f x) 0 + n) (sum_kept f p xs) ∙ sym (sum_by_cons (λ y. cond (p y) (f y) 0) x xs)
+sum_kept f p (x ∷ xs) = more (p x) ∙ ap (λ n. cond (p x) (f x) 0 + n) (sum_kept f p xs) ∙ sym (sum_by-cons (λ y. cond (p y) (f y) 0) x xs)
   where
     more : (b : Bool) → sum_by f (cond b (x ∷ kept p xs) (kept p xs)) ≡ cond b (f x) 0 + sum_by f (kept p xs)
-    more true = sum_by_cons f x (kept p xs)
+    more true = sum_by-cons f x (kept p xs)
     more false = omega arith
 
 module _ (r : ℕ) where

@@ -5,7 +5,7 @@ use Rattle.std.proofs.lemmas.Bool.{le-leb, lt-leb}
 use Rattle.keybox.specs.Device.{state}
 use Rattle.keybox.specs.Runs.{answers, after, seen_after}
 use Rattle.keybox.proofs.device.KeyBox.run.Goals as goal
-use Rattle.keybox.proofs.Hidden.{hides}
+use Rattle.keybox.proofs.Hiding.{hides}
 use Rattle.keybox.proofs.Lasts.{lasts}
 use Rattle.keybox.proofs.Steps.{answers_more, after_more, seen_more}
 

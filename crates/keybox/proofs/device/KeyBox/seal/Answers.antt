@@ -10,6 +10,6 @@ returns g c =
     let clean = c.in-ok-check-errors.ensures.value in
     let checks = c.in-ok-check-errors.ensures.did in
     record {
-      effect = seal_effect s (g.M.Memory.seen c.args.self.now.memory) _ _ _ refl _ _ ready clean checks c.publish-syndrome.ensures.value c.publish-syndrome.ensures.did;
-      seen = seal_seen s (g.M.Memory.seen c.args.self.now.memory) _ _ _ refl _ _ ready clean checks c.publish-syndrome.ensures.value c.publish-syndrome.ensures.did;
+      effect = seal_effect s (g.M.Memory.seen c.args.self.now.memory) _ _ _ refl _ _ ready clean checks c.publish_syndrome.ensures.value c.publish_syndrome.ensures.did;
+      seen = seal_seen s (g.M.Memory.seen c.args.self.now.memory) _ _ _ refl _ _ ready clean checks c.publish_syndrome.ensures.value c.publish_syndrome.ensures.did;
     }

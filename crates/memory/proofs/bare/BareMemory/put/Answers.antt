@@ -5,5 +5,5 @@ use Rattle.memory.proofs.bare.BareMemory.put.Goals as goal
 
 pub returns : goal.returns
 returns c =
-    let n = c.args.self.now.words.name in
-    record { did = ap (bare n) c.write-word.ensures ∙ bare_written n c.args.self.now.words.now c.args.a c.args.w }
+    let n = c.args.self.now.words.ghost_name in
+    record { did = ap (bare n) c.write_word.ensures ∙ bare_written n c.args.self.now.words.now c.args.a c.args.w }

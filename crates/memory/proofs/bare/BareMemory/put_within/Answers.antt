@@ -8,6 +8,6 @@ bounds-self-a c = reached_in _ _ c.requires
 
 pub returns : goal.returns
 returns c =
-    let n = c.args.self.now.words.name in
+    let n = c.args.self.now.words.ghost_name in
     let ws = c.args.self.now.words.now in
     record { did = ap (bare n) (sym (written_in ws c.args.a c.args.w c.requires)) ∙ bare_written n ws c.args.a c.args.w }

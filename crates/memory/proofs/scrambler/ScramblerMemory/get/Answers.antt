@@ -4,8 +4,8 @@ use Rattle.memory.specs.Layers.{padded}
 use Rattle.memory.proofs.Pads.{length_padded, scrambler_get}
 use Rattle.memory.proofs.scrambler.ScramblerMemory.get.Goals as goal
 
-pub get-within-requires : goal.get-within-requires
-get-within-requires g c = omega (arith, length_padded c.args.self.now.seed 0 (g.M.Memory.seen c.args.self.now.below).words)
+pub get_within-requires : goal.get_within-requires
+get_within-requires g c = omega (arith, length_padded c.args.self.now.seed 0 (g.M.Memory.seen c.args.self.now.below).words)
 
 pub returns-else-a-size : goal.returns-else-a-size
 returns-else-a-size g c =

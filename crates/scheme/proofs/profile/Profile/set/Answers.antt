@@ -3,28 +3,16 @@ use Rattle.std.proofs.Common.{sym}
 use Rattle.scheme.proofs.Thresholds.{ranges, length_entries, used_entry, unused_entry}
 use Rattle.scheme.proofs.profile.Profile.set.Goals as goal
 
-pub invariant-of-self : goal.invariant-of-self
-invariant-of-self c =
-    let h = ranges _ _ _ _ (sym c.if-not-is-lawful.ensures) in
-    let made = c.entries.ensures in (
-      h.r_range,
-      (
-        h.d_range,
-        (
-          h.t_range,
-          (
-            h.k_range,
-            (
-              rw made (length_entries _ h.k_range.1),
-              (
-                rw made (used_entry _ _ h.thresholds),
-                (
-                  rw made (unused_entry _),
-                  tt,
-                ),
-              ),
-            ),
-          ),
-        ),
-      ),
-    )
+pub invariant_of-self : goal.invariant_of-self
+invariant_of-self c =
+    let h = ranges _ _ _ _ (sym c.if-not-is_lawful.ensures) in
+    let made = c.entries.ensures in
+    record {
+      r_range = h.r_range;
+      d_range = h.d_range;
+      t_range = h.t_range;
+      k_range = h.k_range;
+      entries = rw made (length_entries _ h.k_range.1);
+      used = rw made (used_entry _ _ h.thresholds);
+      unused = rw made (unused_entry _);
+    }
