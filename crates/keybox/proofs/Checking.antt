@@ -1,5 +1,5 @@
 -- The checks of a seal, one after the other: which fault they come to, and the accesses up to there.
-use Rattle.std.proofs.Common.{◌≡◌, ℕ, ◌+◌, ◌-◌, ◌*◌, ◌/◌, ◌%◌, ◌^◌, true, leb, List, [], ◌∷◌, ◌++◌, get_or, Some, None, Err, Option, Result, sym, refl, ap, ◌∙◌, append-nil}
+use Rattle.std.proofs.Common.{◌≡◌, ℕ, ◌+◌, ◌-◌, ◌*◌, ◌/◌, ◌%◌, ◌^◌, true, leb, List, [], ◌∷◌, ◌++◌, get_or, Some, None, Err, Option, Result, sym, ap, ◌∙◌, append-nil}
 use Rattle.std.specs.List.{range_with_len}
 use Rattle.std.specs.Option.{option_map}
 use Rattle.memory.specs.Access.{Seen, accessed, get}

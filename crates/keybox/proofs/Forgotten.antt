@@ -7,7 +7,7 @@ use Rattle.std.proofs.lemmas.List.{get_or-take}
 use Rattle.std.proofs.lemmas.Bool.{le-ltb}
 use Rattle.memory.specs.Words.{over, zeros}
 use Rattle.memory.proofs.Words.{length_zeros}
-use Rattle.rows.specs.Rows.{plus, words_of, row_at, has_tail}
+use Rattle.rows.specs.Rows.{plus, words_of, row_at}
 use Rattle.rows.specs.Ring.{marks}
 use Rattle.rows.specs.Fill.{part}
 use Rattle.scheme.specs.declared.profile.Profile.{Profile}

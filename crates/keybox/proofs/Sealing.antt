@@ -1,5 +1,5 @@
 -- What a seal does once its checks passed: the sum that it makes is e0 + g·e1, and its work in WORK is lost under the zeros that it ends with.
-use Rattle.std.proofs.Common.{◌≡◌, ℕ, zero, suc, ◌+◌, ◌-◌, ◌*◌, ◌/◌, ◌%◌, ◌^◌, ◌<◌, ◌≤◌, Bool, true, false, cond, eqb, ltb, leb, ◌⊎◌, List, [], ◌∷◌, ◌++◌, map, length, get_or, drop, set, replicate, Some, None, Ok, sum_by, Option, sym, refl, ap, ◌∙◌, subst, inl, inr, mod-eq_of_lt, arith, length-set, length-take, get_or-set_other, get_or-set_same}
+use Rattle.std.proofs.Common.{◌≡◌, ℕ, zero, suc, ◌+◌, ◌-◌, ◌*◌, ◌/◌, ◌%◌, ◌^◌, ◌<◌, ◌≤◌, Bool, true, false, cond, eqb, ltb, leb, List, [], ◌∷◌, ◌++◌, map, length, get_or, drop, set, replicate, Some, None, Ok, sum_by, Option, sym, refl, ap, ◌∙◌, subst, inl, inr, mod-eq_of_lt, arith, length-set, length-take, get_or-set_other, get_or-set_same}
 use native.Mathlib.Nat.{mod_self, add-mod_right}
 use lib.ListN.{length-replicate}
 use Rattle.std.specs.List.{AllByRecursion as All, range_with_len}
@@ -10,13 +10,12 @@ use Rattle.memory.specs.Words.{over, zeros}
 use Rattle.memory.specs.Access.{Seen, accessed, put}
 use Rattle.memory.proofs.Traces.{accessed_then}
 use Rattle.memory.proofs.Words.{over_set, zeros_inside, zeros_zeros, part_over, length_zeros, zeros_in, zeros_out, part_at, part_out, part_zeros}
-use Rattle.rows.specs.Rows.{Row, bit_of, unit, plus, rotated, product, kept, row_at, word_of, words_of, has_tail}
+use Rattle.rows.specs.Rows.{Row, bit_of, unit, rotated, kept, row_at, word_of, words_of, has_tail}
 use Rattle.std.proofs.lemmas.List.FromFn.{length-map-range_with_len}
 use Rattle.scheme.specs.declared.fault.BoxFault.TheVariants.{MemorySmall, SlipOut, Input}
 use Rattle.keybox.specs.declared.call.Answer.TheVariants.{Rotations}
 use Rattle.keybox.specs.Device.{Roomy, granted, checked}
 use Rattle.keybox.proofs.Working.{work_lost}
-use Rattle.rows.specs.Ring.{marks}
 use Rattle.rows.specs.Sum.{index}
 use Rattle.scheme.specs.declared.profile.Profile.{Profile}
 use Rattle.std.specs.Option.{option_map}
@@ -28,7 +27,7 @@ use Rattle.rows.proofs.Products.{parity, OneAt, unit_row, unit_tail, either_word
 use Rattle.rows.specs.declared.plan.Plan.{Plan}
 use Rattle.keybox.specs.Accesses.{seal_plan, rest_accesses, publish_accesses, sealed_accesses, seal_check_accesses, seal_accesses}
 use Rattle.keybox.specs.Model.{State, first, when, grants, small, with_words, seal_fault, sealing, first_place, again, tail_place, seal_input_fault, left_half, right_half, public_syndrome, rested, published, sealed_words}
-use Rattle.scheme.specs.Zones.{W, B, in_size, out_at, work_at, work_size, work_row, N}
+use Rattle.scheme.specs.Zones.{W, B, work_at, work_size, work_row, N}
 
 -- the row of bit 0 alone rotated by q has bit q alone
 unit_rotated : (r q j : ℕ) → q < r → j < r → rotated r q unit j ≡ cond (eqb q j) 1 0

@@ -1,5 +1,5 @@
 -- The rows of WORK, and what becomes of a row that is published.
-use Rattle.std.proofs.Common.{◌≡◌, ℕ, ◌+◌, ◌*◌, ◌<◌, ◌≤◌, List, ◌++◌, length, replicate, sym, refl, ap, ◌∙◌, inl, mul-le-mul_right, add-mul, arith, length-append}
+use Rattle.std.proofs.Common.{◌≡◌, ℕ, ◌+◌, ◌*◌, ◌<◌, ◌≤◌, List, ◌++◌, length, replicate, sym, ap, ◌∙◌, inl, mul-le-mul_right, add-mul, arith, length-append}
 use lib.ListN.{length-replicate}
 use Rattle.memory.specs.Access.{Seen, accessed}
 use Rattle.memory.specs.Words.{over, zeros}

@@ -1,6 +1,6 @@
 -- The accesses that each call makes, worked out from public numbers, the call without its words, and its verdict.
 -- The promise that nothing secret shows in a trail is stated of these very lists.
-use Rattle.std.specs.Prelude.{ℕ, zero, suc, ◌+◌, ◌-◌, ◌*◌, Bool, cond, ◌||◌, List, [], ◌∷◌, ◌++◌, length, ◌==◌, nat_lt}
+use Rattle.std.specs.Prelude.{ℕ, zero, suc, ◌+◌, ◌-◌, Bool, cond, ◌||◌, List, [], ◌∷◌, ◌++◌, length, ◌==◌, nat_lt}
 use Rattle.memory.specs.Access.{Access, get, put}
 use Rattle.rows.specs.declared.plan.Direction.TheVariants.{Up}
 use Rattle.rows.specs.declared.plan.Source.TheVariants.{Either}

@@ -1,5 +1,5 @@
 -- What each call of a box answers, and the box that it leaves: every word of the memory is named, on grant and on refusal.
-use Rattle.std.specs.Prelude.{◌≡◌, ℕ, zero, suc, ◌+◌, ◌-◌, ◌*◌, ◌%◌, Bool, true, false, cond, not, ◌&&◌, ◌||◌, ltb, leb, List, [], ◌∷◌, ◌++◌, map, length, set, replicate, Some, None, Option, ◌==◌, nat_le, nat_lt, slice_index, slice_set}
+use Rattle.std.specs.Prelude.{ℕ, zero, suc, ◌+◌, ◌-◌, ◌*◌, Bool, true, false, cond, ◌||◌, ltb, leb, List, [], ◌∷◌, ◌++◌, map, length, replicate, Some, None, Option, ◌==◌, nat_le, nat_lt, slice_index, slice_set}
 use Rattle.std.specs.List.{range_with_len}
 use Rattle.std.specs.Option.{option_map}
 use Rattle.memory.specs.Words.{over, zeros}
@@ -15,7 +15,7 @@ use Rattle.keybox.specs.declared.call.Call.{Call}
 use Rattle.keybox.specs.declared.call.Call.TheVariants.{Give, Take, Seal, Wipe}
 use Rattle.keybox.specs.declared.call.Answer.{Answer}
 use Rattle.keybox.specs.declared.call.Answer.TheVariants.{Done, Word, Rotations, Refused}
-use Rattle.scheme.specs.Zones.{W, B, in_size, key_at, out_at, out_size, work_at, work_size, N}
+use Rattle.scheme.specs.Zones.{W, B, in_size, out_at, out_size, work_at, work_size, N}
 
 -- a box: its profile, its unit number, whether a key is loaded, whether a slip is out, and the words of its memory
 pub record State : Type 0 where

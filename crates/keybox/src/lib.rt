@@ -2,6 +2,7 @@
 // Positions, rows and syndromes are secret; what the box does with its memory depends on public numbers and verdicts alone.
 
 #![tactic(auto)]
+
 pub mod call;
 mod checks;
 pub mod device;

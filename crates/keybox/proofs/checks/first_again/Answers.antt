@@ -1,4 +1,4 @@
-use Rattle.std.proofs.Common.{◌≡◌, ◌+◌, get_or, sym, refl, ap, ◌∙◌, arith}
+use Rattle.std.proofs.Common.{◌+◌, get_or, refl, ap, ◌∙◌}
 use Rattle.keybox.specs.Accesses.{pair_accesses}
 use Rattle.keybox.proofs.Marking.{pair_step, first_step, again_test}
 use Rattle.keybox.proofs.checks.first_again.Goals as goal
@@ -10,8 +10,8 @@ loop-i-init g c = (c.none-mark.ensures, refl)
 pub loop-i-preserved : goal.loop-i-preserved
 loop-i-preserved g c =
     let same = ap (λ z. z.words) c.loop-i.invariant.1 in
-    let word = c.get-within-word.ensures.value ∙ ap (λ z. get_or z (c.args.at + c.loop-i.i) 0) same in
-    let kept = ap (λ z. z.words) c.get-within-word.ensures.did ∙ same in (
+    let word = c.get_within-word.ensures.value ∙ ap (λ z. get_or z (c.args.at + c.loop-i.i) 0) same in
+    let kept = ap (λ z. z.words) c.get_within-word.ensures.did ∙ same in (
       first_step _ _ _ _ _ c.loop-i.invariant.0 (again_test _ _ _ _ _ _ _ c.loop-i-test.true kept word c.stands_in.ensures.value) c.note.ensures,
-      pair_step _ _ _ _ _ _ c.loop-i.invariant.1 c.get-within-word.ensures.did c.stands_in.ensures.did,
+      pair_step _ _ _ _ _ _ c.loop-i.invariant.1 c.get_within-word.ensures.did c.stands_in.ensures.did,
     )

@@ -1,11 +1,11 @@
-use Rattle.std.proofs.Common.{◌≡◌, length, ap, ◌∙◌, arith, length-set}
+use Rattle.std.proofs.Common.{ap, ◌∙◌, arith, length-set}
 use Rattle.memory.proofs.Words.{length_over}
 use Rattle.rows.proofs.Loops.{size}
 use Rattle.keybox.proofs.Sealing.{sum_fits, sealed_is}
 use Rattle.keybox.proofs.seal.publish_syndrome.Goals as goal
 
-pub put-within-requires : goal.put-within-requires
-put-within-requires g c =
+pub put_within-requires : goal.put_within-requires
+put_within-requires g c =
     let long = simp length_over at (ap size c.rest.ensures) in
     omega (arith, c.work_row.ensures.value)
 
