@@ -2,6 +2,7 @@
 // Nothing here knows a box; what is asked for is done elsewhere.
 
 #![tactic(auto)]
+
 pub mod command;
 pub mod digits;
 pub mod line;

@@ -5,31 +5,31 @@ use Rattle.lines.specs.Digits.{value, value_after, radix}
 use Rattle.lines.proofs.Numerals.{digit_below, value_more, below_more, fits_more}
 use Rattle.lines.proofs.digits.value.Goals as goal
 
-pub returns-in-err-d : goal.returns-in-err-d
-returns-in-err-d c =
+pub returns-in_err-d : goal.returns-in_err-d
+returns-in_err-d c =
     let e : None ≡ value c.args.base c.args.text.now =
-    value_more c.args.base c.loop-b.v c.args.text.now c.loop-b.b-index None (omega arith) c.in-err-d.ensures ∙ c.loop-b.invariant.0
+    value_more c.args.base c.loop-b.v c.args.text.now c.loop-b.b-index None (omega arith) c.in_err-d.ensures ∙ c.loop-b.invariant.0
     in search rules
 
 -- the value so far with the new digit fits
-step_fits : (c : goal.After-radix) → c.loop-b.v * c.radix.result + c.in-ok-d.d < 2 ^ 64
+step_fits : (c : goal.After-radix) → c.loop-b.v * c.radix.result + c.in_ok-d.d < 2 ^ 64
 step_fits c =
-    rw c.radix.ensures (fits_more c.args.base c.loop-b.v c.in-ok-d.d c.loop-b.b-index c.loop-b.invariant.1
-    (digit_below c.args.base (get_or c.args.text.now c.loop-b.b-index 0) c.in-ok-d.d c.in-ok-d.ensures) (omega arith))
+    rw c.radix.ensures (fits_more c.args.base c.loop-b.v c.in_ok-d.d c.loop-b.b-index c.loop-b.invariant.1
+    (digit_below c.args.base (get_or c.args.text.now c.loop-b.b-index 0) c.in_ok-d.d c.in_ok-d.ensures) (omega arith))
 
-pub overflow-mul-v : goal.overflow-mul-v
-overflow-mul-v c = omega (arith, step_fits c)
+pub overflow_mul-v : goal.overflow_mul-v
+overflow_mul-v c = omega (arith, step_fits c)
 
-pub overflow-add-v : goal.overflow-add-v
-overflow-add-v c = omega (arith, step_fits c)
+pub overflow_add-v : goal.overflow_add-v
+overflow_add-v c = omega (arith, step_fits c)
 
 pub loop-b-preserved : goal.loop-b-preserved
 loop-b-preserved c =
     rw c.radix.ensures (
-      value_more c.args.base c.loop-b.v c.args.text.now c.loop-b.b-index (Some c.in-ok-d.d) (omega arith) c.in-ok-d.ensures
+      value_more c.args.base c.loop-b.v c.args.text.now c.loop-b.b-index (Some c.in_ok-d.d) (omega arith) c.in_ok-d.ensures
           ∙ c.loop-b.invariant.0,
-      below_more (radix c.args.base) c.loop-b.v c.in-ok-d.d c.loop-b.b-index c.loop-b.invariant.1
-          (digit_below c.args.base (get_or c.args.text.now c.loop-b.b-index 0) c.in-ok-d.d c.in-ok-d.ensures),
+      below_more (radix c.args.base) c.loop-b.v c.in_ok-d.d c.loop-b.b-index c.loop-b.invariant.1
+          (digit_below c.args.base (get_or c.args.text.now c.loop-b.b-index 0) c.in_ok-d.d c.in_ok-d.ensures),
     )
 
 pub returns : goal.returns

@@ -3,4 +3,4 @@ use Rattle.std.proofs.Common.{rules}
 use Rattle.lines.proofs.digits.word.Goals as goal
 
 pub returns : goal.returns
-returns c = let b = c.in-ok-value.ensures.bound in search rules
+returns c = let b = c.in_ok-value.ensures.bound in search rules

@@ -4,5 +4,5 @@ use Rattle.lines.specs.Commands.{ordered}
 use Rattle.lines.proofs.Arguments.{alone_none}
 use Rattle.lines.proofs.parse.alone.Goals as goal
 
-pub returns-in-default : goal.returns-in-default
-returns-in-default c = alone_none (ordered c.args.order) c.args.rest.now (search rules)
+pub returns-in_default : goal.returns-in_default
+returns-in_default c = alone_none (ordered c.args.order) c.args.rest.now (search rules)

@@ -6,16 +6,16 @@ use Rattle.lines.specs.Commands.{call, parts, alone}
 use Rattle.lines.proofs.Arguments.{giving_at}
 use Rattle.lines.proofs.parse.giving.Goals as goal
 
-pub returns-in-err-word : goal.returns-in-err-word
-returns-in-err-word c =
-    rw c.from-residual-in-err-word.ensures
-    (ap (λ o. then o (λ v. then (parts c.in-ok-text.rest.now) (alone (call (Give c.in-ok-place.place v))))) c.in-err-word.ensures
-    ∙ giving_at (parts c.args.rest.now) c.in-ok-place.place (parts c.in-ok-place.rest.now) c.in-ok-text.text.now (parts c.in-ok-text.rest.now)
-    c.in-ok-place.ensures.value c.in-ok-text.ensures.value)
+pub returns-in_err-word : goal.returns-in_err-word
+returns-in_err-word c =
+    rw c.from_residual-in_err-word.ensures
+    (ap (λ o. then o (λ v. then (parts c.in_ok-text.rest.now) (alone (call (Give c.in_ok-place.place v))))) c.in_err-word.ensures
+    ∙ giving_at (parts c.args.rest.now) c.in_ok-place.place (parts c.in_ok-place.rest.now) c.in_ok-text.text.now (parts c.in_ok-text.rest.now)
+    c.in_ok-place.ensures.value c.in_ok-text.ensures.value)
 
 pub returns : goal.returns
 returns c =
     c.alone.ensures
-    ∙ ap (λ o. then o (λ v. then (parts c.in-ok-text.rest.now) (alone (call (Give c.in-ok-place.place v))))) c.in-ok-word.ensures
-    ∙ giving_at (parts c.args.rest.now) c.in-ok-place.place (parts c.in-ok-place.rest.now) c.in-ok-text.text.now (parts c.in-ok-text.rest.now)
-    c.in-ok-place.ensures.value c.in-ok-text.ensures.value
+    ∙ ap (λ o. then o (λ v. then (parts c.in_ok-text.rest.now) (alone (call (Give c.in_ok-place.place v))))) c.in_ok-word.ensures
+    ∙ giving_at (parts c.args.rest.now) c.in_ok-place.place (parts c.in_ok-place.rest.now) c.in_ok-text.text.now (parts c.in_ok-text.rest.now)
+    c.in_ok-place.ensures.value c.in_ok-text.ensures.value

@@ -26,4 +26,4 @@ returns c =
     ] in
     let e : headed (Some (split 32 xs)) ≡ Some (take i xs, parts (drop i xs)) =
     ap (λ ps. headed (Some ps)) (sym c.loop-end.invariant.0) ∙ headed_at (take i xs) (drop i xs) space in
-    record { value = e ∙ sym (simp (c.split-at.ensures.front, c.split-at.ensures.back)); whole = search rules }
+    record { value = e ∙ sym (simp (c.split_at.ensures.front, c.split_at.ensures.back)); whole = search rules }
