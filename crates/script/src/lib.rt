@@ -2,6 +2,7 @@
 // Everything that is printed is given by contracts; a program only reads, calls and writes.
 
 #![tactic(auto)]
+
 pub mod desk;
 pub mod examples;
 pub mod fault;

@@ -9,6 +9,6 @@ use Rattle.script.proofs.desk.profile.Goals as goal
 pub returns : goal.returns
 returns c =
     let r = c.r.result in let d = c.d.result in let t = c.t.result in let ts = c.thresholds.result.now in
-    let h : lawful r d t ts ≡ true = sym c.in-ok-set.ensures.granted in
-    let n = c.in-ok-set.ensures.numbers ∙ cond-true (lawful r d t ts) (chosen_numbers r d t ts) (numbers c.standard-profile.result) h in
+    let h : lawful r d t ts ≡ true = sym c.in_ok-set.ensures.granted in
+    let n = c.in_ok-set.ensures.numbers ∙ cond-true (lawful r d t ts) (chosen_numbers r d t ts) (numbers c.standard-profile.result) h in
     profile_granted r d t ts h c.set.new.self n ∙ (λ i. profile_of (c.r.ensures i) (c.d.ensures i) (c.t.ensures i) (c.thresholds.ensures i))
