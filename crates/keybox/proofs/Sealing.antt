@@ -2,7 +2,7 @@
 use Rattle.std.proofs.Common.{◌≡◌, ℕ, zero, suc, ◌+◌, ◌-◌, ◌*◌, ◌/◌, ◌%◌, ◌^◌, ◌<◌, ◌≤◌, Bool, true, false, cond, eqb, ltb, leb, List, [], ◌∷◌, ◌++◌, map, length, get_or, drop, set, replicate, Some, None, Ok, sum_by, Option, sym, refl, ap, ◌∙◌, subst, inl, inr, mod-eq_of_lt, arith, length-set, length-take, get_or-set_other, get_or-set_same}
 use native.Mathlib.Nat.{mod_self, add-mod_right}
 use lib.ListN.{length-replicate}
-use Rattle.std.specs.List.{AllByRecursion as All, range_with_len}
+use Rattle.std.specs.List.{AllByRecursion, range_with_len}
 use Rattle.std.proofs.lemmas.List.Sums.{sum_by-cons}
 use Rattle.std.proofs.ByRecursion.{All-from_get_or}
 use Rattle.std.proofs.lemmas.Bool.{cases_lt, cases_eq, cases_order, leb-false, lt-ltb, le-ltb, le-leb, lt-leb, eq-eqb, ne_eqb}
@@ -135,7 +135,7 @@ module _ (p : Profile) (ws : List ℕ) (room : N p ≤ length ws) where
   row_there j h = ap (λ w. bit_of w (j % 32)) (below_work (B p + j / 32) (omega arith))
 
   module _ (passed : seal_input_fault p ws ≡ None) where
-    in_range : All (λ q. q < 2 * p.r) (part prepared 0 p.t)
+    in_range : AllByRecursion (λ q. q < 2 * p.r) (part prepared 0 p.t)
     in_range =
         let found : first_place (λ i. leb (2 * p.r) (get_or ws i 0)) (range_with_len 0 p.t) ≡ None = (all_passed ErrorRange _ _ passed).0 in
         All-from_get_or (λ q. q < 2 * p.r) (part prepared 0 p.t) 0 (λ i h.

@@ -1,7 +1,7 @@
 -- What a sum with parity lanes leaves in a plane that was zero: the words of a product, or of a sum of two rows' rotations.
 use Rattle.std.proofs.Common.{◌≡◌, ℕ, zero, suc, ◌+◌, ◌-◌, ◌*◌, ◌/◌, ◌%◌, ◌^◌, ◌<◌, ◌≤◌, Bool, false, cond, ltb, List, [], ◌∷◌, map, get_or, sum_by, sym, refl, ap, ◌∙◌, ap₂, inl, inr, arith, ext_get_or}
 use native.Mathlib.Nat.{zero-div, div-eq_of_lt}
-use Rattle.std.specs.List.{range_with_len, AllByRecursion as All}
+use Rattle.std.specs.List.{range_with_len, AllByRecursion}
 use Rattle.std.proofs.lemmas.List.FromFn.{length-map-range_with_len, get_or-map-range_with_len}
 use Rattle.std.proofs.lemmas.Nat.{mod_below, pow_below}
 use Rattle.std.proofs.ByRecursion.{All-weaker}
@@ -34,7 +34,7 @@ sum_map f [] j = refl
 sum_map f (q ∷ qs) j =
     sum_by-cons (λ (x : Row). x j) (f q) (map f qs) ∙ ap (λ (m : ℕ). f q j + m) (sum_map f qs j) ∙ sym (sum_by-cons (λ q. f q j) q qs)
 
-sum_same : (f g : ℕ → ℕ) (ps : List ℕ) → All (λ q. f q ≡ g q) ps → sum_by f ps ≡ sum_by g ps
+sum_same : (f g : ℕ → ℕ) (ps : List ℕ) → AllByRecursion (λ q. f q ≡ g q) ps → sum_by f ps ≡ sum_by g ps
 sum_same f g [] h = refl
 sum_same f g (q ∷ qs) h = sum_by-cons f q qs ∙ ap₂ (λ (m n : ℕ). m + n) h.0 (sum_same f g qs h.1) ∙ sym (sum_by-cons g q qs)
 
@@ -111,7 +111,7 @@ turned_below r p x y j h l same =
 
 module _ (r at count into scratch : ℕ) (ws : List ℕ) (z : (i : ℕ) → i < width r → get_or ws (into + i) 0 ≡ 0) where
   -- positions below r rotate the row x that lies at a: the plane is their product
-  pub product_words : (a : ℕ) (x : Row) → ((j : ℕ) → j < r → row_at ws a j ≡ x j) → All (λ q. q < r) (part ws at count)
+  pub product_words : (a : ℕ) (x : Row) → ((j : ℕ) → j < r → row_at ws a j ≡ x j) → AllByRecursion (λ q. q < r) (part ws at count)
       → sum_words parity 1 (record { r = r; at = at; count = count; source = One a; direction = Up; into = into; scratch = scratch }) ws
       ≡ zeros (over ws into (words_of r (product r (part ws at count) x))) scratch (2 * width r)
   product_words a x row below =
@@ -121,7 +121,7 @@ module _ (r at count into scratch : ℕ) (ws : List ℕ) (z : (i : ℕ) → i < 
       ap (λ (m : ℕ). m % 2) (sum_same (λ q. added r Up (One a) ws q j) (λ q. rotated r q x j) ps (All-weaker (λ q. q < r) (λ q. added r Up (One a) ws q j ≡ rotated r q x j) (λ q h. turned_below r q (row_at ws a) x j h l row) ps below))))
 
   -- positions below 2 r choose between the row x, at a, and the row y, at b
-  pub either_words : (a b : ℕ) (x y : Row) → ((j : ℕ) → j < r → row_at ws a j ≡ x j) → ((j : ℕ) → j < r → row_at ws b j ≡ y j) → All (λ q. q < 2 * r) (part ws at count)
+  pub either_words : (a b : ℕ) (x y : Row) → ((j : ℕ) → j < r → row_at ws a j ≡ x j) → ((j : ℕ) → j < r → row_at ws b j ≡ y j) → AllByRecursion (λ q. q < 2 * r) (part ws at count)
       → sum_words parity 1 (record { r = r; at = at; count = count; source = Either a b; direction = Up; into = into; scratch = scratch }) ws
       ≡ zeros (over ws into (words_of r (λ j. sum_by (λ q. rotated r (index r q) (cond (ltb q r) x y) j) (part ws at count) % 2))) scratch (3 * width r)
   either_words a b x y first second below =

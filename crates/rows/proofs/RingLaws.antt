@@ -3,7 +3,7 @@
 use Rattle.std.proofs.Common.{◌≡◌, ℕ, ◌+◌, ◌-◌, ◌*◌, ◌%◌, ◌<◌, ◌≤◌, ◌⊎◌, List, sum_by, sym, ap, ◌∙◌, inl, inr, ⊎_elim, mod-lt, mod-eq_of_lt, mul_comm, mul-add, mul_left_comm, arith}
 use mathlib.Core.Path.{fun_ext}
 use native.Mathlib.Nat.{mod-add-mod, add-mod_right}
-use Rattle.std.specs.List.{range_with_len, AllByRecursion as All}
+use Rattle.std.specs.List.{range_with_len, AllByRecursion}
 use Rattle.std.proofs.ByRecursion.{All-weaker}
 use Rattle.std.proofs.lemmas.Bool.{cases_lt}
 use Rattle.rows.specs.Rows.{Row, unit, plus, product}
@@ -72,7 +72,7 @@ module _ (r : ℕ) where
         turned : (q n : ℕ) → unit q * n ≡ n * at 0 q
         turned q n = grind arith
 
-    pub product_marks : (ps : List ℕ) (x : Row) → All (λ p. p < r) ps → Same r (product r ps x) (times r (marks ps) x)
+    pub product_marks : (ps : List ℕ) (x : Row) → AllByRecursion (λ p. p < r) ps → Same r (product r ps x) (times r (marks ps) x)
     product_marks ps x below j l =
         sum_alike _ _ ps (All-weaker _ _ (λ p m. parity (ap (λ n. x (before j n)) (mod-eq_of_lt m) ∙ sym (sum_at (λ q. x (before j q)) r p m))) ps below)
         ∙ parity (sum_sum (λ p q. x (before j q) * at p q) ps (range_with_len 0 r))

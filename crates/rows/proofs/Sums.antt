@@ -3,7 +3,7 @@
 use Rattle.std.proofs.Common.{◌≡◌, ℕ, zero, suc, ◌+◌, ◌*◌, ◌%◌, ◌<◌, cond, eqb, ltb, leb, List, [], ◌∷◌, get_or, sum_by, sym, refl, ap, ◌∙◌, arith}
 use mathlib.Core.Path.{fun_ext}
 use native.Mathlib.Nat.{div-add-mod}
-use Rattle.std.specs.List.{range_with_len, AllByRecursion as All}
+use Rattle.std.specs.List.{range_with_len, AllByRecursion}
 use Rattle.std.proofs.lemmas.List.Sums.{sum_by-cons}
 use Rattle.std.proofs.ByRecursion.{All-from_get_or}
 use Rattle.std.proofs.lemmas.List.FromFn.{length-range_with_len, get_or-range_with_len}
@@ -20,7 +20,7 @@ at k q = cond (eqb k q) 1 0
 
 module _ {X : Type 0} where
   -- sums agree modulo 2 where their summands do
-  pub sum_alike : (f g : X → ℕ) (xs : List X) → All (λ x. f x % 2 ≡ g x % 2) xs → sum_by f xs % 2 ≡ sum_by g xs % 2
+  pub sum_alike : (f g : X → ℕ) (xs : List X) → AllByRecursion (λ x. f x % 2 ≡ g x % 2) xs → sum_by f xs % 2 ≡ sum_by g xs % 2
   sum_alike f g [] h = refl
   sum_alike f g (x ∷ xs) h = let rest = sum_alike f g xs h.1 in omega (arith, sum_by-cons f x xs, sum_by-cons g x xs, h.0)
 
@@ -48,7 +48,7 @@ sum_sum f (x ∷ xs) ys =
     let more = ap (λ g. sum_by g ys) (fun_ext (λ y. sum_by-cons (λ z. f z y) x xs)) in
     omega (arith, more, sum_by-cons (λ z. sum_by (f z) ys) x xs, sum_plus (f x) (λ y. sum_by (λ z. f z y) xs) ys)
 
-pub all_below : (P : ℕ → Type 0) (n : ℕ) → ((q : ℕ) → q < n → P q) → All P (range_with_len 0 n)
+pub all_below : (P : ℕ → Type 0) (n : ℕ) → ((q : ℕ) → q < n → P q) → AllByRecursion P (range_with_len 0 n)
 all_below P n h = All-from_get_or P (range_with_len 0 n) 0 (λ i l. here i (omega (arith, length-range_with_len 0 n)))
   where
     here : (i : ℕ) → i < n → P (get_or (range_with_len 0 n) i 0)

@@ -1,6 +1,6 @@
 -- Rows of r bits are the ring F2[x]/(x^r - 1), and a product of positions and a row is a product in it.
 use Rattle.std.specs.Prelude.{◌≡◌, ℕ, ◌+◌, ◌-◌, ◌*◌, ◌%◌, ◌<◌, ◌≤◌, cond, List, sum_by, ◌==◌}
-use Rattle.std.specs.List.{range_with_len, AllByRecursion as All}
+use Rattle.std.specs.List.{range_with_len, AllByRecursion}
 use Rattle.rows.specs.Rows.{Row, unit, plus, product}
 
 -- bit j of x·y: the sum of x_q · y_(j - q) over all q, the indices modulo r and the bits modulo 2
@@ -24,7 +24,7 @@ pub record RingLaws (r : ℕ) : Type 0 where
   pub associates : (x y z : Row) → Same r (times r (times r x y) z) (times r x (times r y z))
   pub distributes : (x y z : Row) → Same r (times r x (plus y z)) (plus (times r x y) (times r x z))
   pub unit_left : (x : Row) → Bits r x → Same r (times r unit x) x
-  pub products : (ps : List ℕ) (x : Row) → All (λ p. p < r) ps → Same r (product r ps x) (times r (marks ps) x)
+  pub products : (ps : List ℕ) (x : Row) → AllByRecursion (λ p. p < r) ps → Same r (product r ps x) (times r (marks ps) x)
 
 -- for every length of a row
 abbrev pub RowsAreTheRing : Type 0
