@@ -42,7 +42,7 @@ def declared(path):
 
 
 # names that the rule alone would make those of other things
-SPELLED = {"Answers-of": "answers_of", "Alone-of": "alone_of", "Numbers-of": "numbers_of", "bit-xor": "bit_of_xor", "getD-same": "get_or_same"}
+SPELLED = {"Answers-of": "answers_of", "Alone-of": "alone_of", "Numbers-of": "numbers_of", "bit-and": "bit_of_and", "bit-or": "bit_of_or", "bit-xor": "bit_of_xor", "getD-same": "get_or_same"}
 
 
 def spelled(name):
