@@ -26,5 +26,5 @@ returns g c =
     let p = c.args.profile.now in
     let inside = row_inside p c.args.i c.requires.row in
     let room : work_row p c.args.i + W p ≤ length (g.M.Memory.seen c.args.m.now).words = omega arith in
-    published_is p c.args.i _ _ _ _ _ _ _ _ c.work_row.ensures.value c.out_at-out.ensures.value c.width-width.ensures.value c.in_size.ensures.value
-    c.copy.ensures.did c.zero.ensures.did c.zero-2.ensures.did room
+    published_is p c.args.i _ _ _ _ _ _ _ _ c.work_row.ensures.value c.out_at-out.ensures.value c.width-width.ensures.value
+    c.copy.ensures.did c.zero.ensures.did c.zero-2.ensures.did (omega arith) room
