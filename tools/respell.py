@@ -4,7 +4,8 @@
 usage: tools/respell.py [--list] FOLDER..      each FOLDER has crates/; --list only prints the names
 
 Renamed are the names that specs/ and proofs/ declare: definitions, lemmas, fields, constructors. What the code in src/ declares, strings,
-the names of goals and of files stay. A name is only renamed as a whole word. Where two names would fall together, nothing is written.
+the names of goals, of files and of local variables stay. A name is only renamed as a whole word. A lemma that would get the name of a definition gets `_lem`
+after it; where two names would fall together otherwise, nothing is written.
 """
 
 import os

@@ -26,34 +26,34 @@ stands_twice p ws = first_place (again (part ws 0 p.t)) (range_with_len 0 p.t)
 
 module _ (p : Profile) (s t : Seen)
     (in_range : None ≡ first_place (λ i. leb (2 * p.r) (get_or s.words i 0)) (range_with_len 0 p.t))
-    (positions-read : t ≡ accessed s (read_accesses 0 p.t) s.words) where
+    (positions_read : t ≡ accessed s (read_accesses 0 p.t) s.words) where
   -- all positions are in range: the next check decides
   range_passed : (twice : Option ℕ) → twice ≡ stands_twice p t.words → verdicts None twice (tail_place p s.words) ≡ checked (seal_input_fault p s.words)
   range_passed twice found =
-      let once : twice ≡ stands_twice p s.words = found ∙ ap (λ z. stands_twice p z.words) positions-read in
+      let once : twice ≡ stands_twice p s.words = found ∙ ap (λ z. stands_twice p z.words) positions_read in
       ap (λ o. verdicts None o (tail_place p s.words)) once ∙ ap (λ o. verdicts o (stands_twice p s.words) (tail_place p s.words)) in_range
 
   pub twice_value : (i : ℕ) → Some i ≡ stands_twice p t.words → Err (ErrorTwice i) ≡ checked (seal_input_fault p s.words)
   twice_value i found = range_passed (Some i) found
 
   pub twice_did : (u : Seen) → u ≡ accessed t (pair_accesses 0 p.t) t.words → u ≡ accessed s (seal_check_accesses p 11) s.words
-  twice_did u pairs-read =
-      let same : t.words ≡ s.words = ap (λ z. z.words) positions-read in
-      accessed_then s t u (read_accesses 0 p.t) (pair_accesses 0 p.t ++ []) s.words s.words positions-read
-      (pairs-read ∙ (ap (accessed t (pair_accesses 0 p.t)) same ∙ ap (λ z. accessed t z s.words) (sym (append-nil (pair_accesses 0 p.t)))))
+  twice_did u pairs_read =
+      let same : t.words ≡ s.words = ap (λ z. z.words) positions_read in
+      accessed_then s t u (read_accesses 0 p.t) (pair_accesses 0 p.t ++ []) s.words s.words positions_read
+      (pairs_read ∙ (ap (accessed t (pair_accesses 0 p.t)) same ∙ ap (λ z. accessed t z s.words) (sym (append-nil (pair_accesses 0 p.t)))))
 
-  module _ (u : Seen) (apart : None ≡ stands_twice p t.words) (pairs-read : u ≡ accessed t (pair_accesses 0 p.t) t.words) where
+  module _ (u : Seen) (apart : None ≡ stands_twice p t.words) (pairs_read : u ≡ accessed t (pair_accesses 0 p.t) t.words) where
     -- no position stands twice: the last check decides
     pub tail_value : (tail : Option ℕ) → tail ≡ tail_place p u.words → verdicts None None tail ≡ checked (seal_input_fault p s.words)
     tail_value tail test =
-        let kept : u.words ≡ s.words = ap (λ z. z.words) pairs-read ∙ ap (λ z. z.words) positions-read in
+        let kept : u.words ≡ s.words = ap (λ z. z.words) pairs_read ∙ ap (λ z. z.words) positions_read in
         ap (verdicts None None) (test ∙ ap (tail_place p) kept) ∙ range_passed None apart
 
     pub tail_did : (v : Seen) → v ≡ accessed u (get (B p + (W p - 1)) ∷ []) u.words → v ≡ accessed s (read_accesses 0 p.t ++ (pair_accesses 0 p.t ++ get (B p + (W p - 1)) ∷ [])) s.words
-    tail_did v last-read =
-        let kept : u.words ≡ s.words = ap (λ z. z.words) pairs-read ∙ ap (λ z. z.words) positions-read in
-        accessed_then s t v (read_accesses 0 p.t) (pair_accesses 0 p.t ++ get (B p + (W p - 1)) ∷ []) s.words s.words positions-read
-        (accessed_then t u v (pair_accesses 0 p.t) (get (B p + (W p - 1)) ∷ []) t.words s.words pairs-read (last-read ∙ ap (accessed u (get (B p + (W p - 1)) ∷ [])) kept))
+    tail_did v last_read =
+        let kept : u.words ≡ s.words = ap (λ z. z.words) pairs_read ∙ ap (λ z. z.words) positions_read in
+        accessed_then s t v (read_accesses 0 p.t) (pair_accesses 0 p.t ++ get (B p + (W p - 1)) ∷ []) s.words s.words positions_read
+        (accessed_then t u v (pair_accesses 0 p.t) (get (B p + (W p - 1)) ∷ []) t.words s.words pairs_read (last_read ∙ ap (accessed u (get (B p + (W p - 1)) ∷ [])) kept))
 
 -- the last word of the row has a bit past the row's end
 pub tail_found : (p : Profile) (ws : List ℕ) (place wide w : ℕ) → place ≡ B p → wide ≡ W p → w ≡ get_or ws (place + (wide - 1)) 0

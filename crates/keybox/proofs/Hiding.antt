@@ -52,6 +52,6 @@ hides s [] rule trail t (d ∷ ds) p h (suc n) v = let z : ◌≡◌ {A = ℕ} 0
 hides s (c ∷ cs) rule trail t [] p h (suc n) v = let z : ◌≡◌ {A = ℕ} 0 1 = cc in absurd (omega arith)
 hides s (c ∷ cs) rule trail t (d ∷ ds) p h (suc n) v =
     let same_shape = same_head (shape d) (shape c) _ _ h in
-    let same-verdict = same_head (verdict (next t d).answer) (verdict (next s c).answer) _ _ v in
-    agrees_more rule trail s t c d cs ds n p same_shape same-verdict
-    (λ trail'. hides (next s c).after cs rule trail' (next t d).after ds (stay_alike s t c d p same_shape same-verdict) (same_tail _ _ _ _ h) n (same_tail _ _ _ _ v))
+    let same_verdict = same_head (verdict (next t d).answer) (verdict (next s c).answer) _ _ v in
+    agrees_more rule trail s t c d cs ds n p same_shape same_verdict
+    (λ trail'. hides (next s c).after cs rule trail' (next t d).after ds (stay_alike s t c d p same_shape same_verdict) (same_tail _ _ _ _ h) n (same_tail _ _ _ _ v))

@@ -190,7 +190,7 @@ module _ (p : Profile) (ws : List ℕ) (room : N p ≤ length ws) where
       ∙ zeros_zeros ws (work_at p) (work_size p) (work_at p) (work_size p) (omega arith) (omega arith)))
 
 -- the five steps of a seal, one after the other
-module _ (p : Profile) (s a b : Seen) (plan : Plan) (at : ℕ) (is-plan : plan ≡ seal_plan p) (is_at : at ≡ work_row p 0)
+module _ (p : Profile) (s a b : Seen) (plan : Plan) (at : ℕ) (is_plan : plan ≡ seal_plan p) (is_at : at ≡ work_row p 0)
     (room : Roomy p s.words) (passed : seal_input_fault p s.words ≡ None)
     (rests : a ≡ accessed s (rest_accesses p) (rested p s.words))
     (Puts-one : b ≡ accessed a (put at ∷ []) (set a.words at 1)) where
@@ -202,12 +202,12 @@ module _ (p : Profile) (s a b : Seen) (plan : Plan) (at : ℕ) (is-plan : plan �
   pub sum_fits : Fits 1 plan b.words
   sum_fits =
       let words : prepared p s.words room.zones ≡ b.words = sym (ap (λ z. z.words) one_put) in
-      subst (λ q. Fits 1 q b.words) (sym is-plan) (subst (Fits 1 (seal_plan p)) words (fits p s.words room.zones passed room.limit))
+      subst (λ q. Fits 1 q b.words) (sym is_plan) (subst (Fits 1 (seal_plan p)) words (fits p s.words room.zones passed room.limit))
 
   module _ (c d e : Seen)
       (sums : c ≡ accessed b (sum_accesses 1 plan) (sum_words parity 1 plan b.words))
       (publishes : d ≡ accessed c (publish_accesses p 2) (published p (part c.words (work_row p 2) (W p)) c.words))
-      (rests-again : e ≡ accessed d (rest_accesses p) (rested p d.words)) where
+      (rests_again : e ≡ accessed d (rest_accesses p) (rested p d.words)) where
     pub sealed_is : e ≡ accessed s (sealed_accesses p) (sealed_words p s.words)
     unfolding sealed_accesses
     sealed_is =
@@ -216,7 +216,7 @@ module _ (p : Profile) (s a b : Seen) (plan : Plan) (at : ℕ) (is-plan : plan �
         let long : length row ≡ W p = length-map-range_with_len (word_of p.r (public_syndrome p.r (part ws 0 p.t) (row_at ws (B p)))) 0 (W p) in
         let left = zeros (over (prepared p ws room.zones) (work_row p 2) row) (work_row p 3) (3 * W p) in
         let two : c ≡ accessed b (sum_accesses 1 (seal_plan p)) left =
-        sums ∙ (ap (λ q. accessed b (sum_accesses 1 q) (sum_words parity 1 q b.words)) is-plan
+        sums ∙ (ap (λ q. accessed b (sum_accesses 1 q) (sum_words parity 1 q b.words)) is_plan
         ∙ ap (accessed b (sum_accesses 1 (seal_plan p))) (ap (λ z. sum_words parity 1 (seal_plan p) z.words) one_put ∙ summed_up p ws room.zones passed)) in
         let kept : c.words ≡ left = ap (λ z. z.words) two in
         let there : part left (work_row p 2) (W p) ≡ row =
@@ -226,7 +226,7 @@ module _ (p : Profile) (s a b : Seen) (plan : Plan) (at : ℕ) (is-plan : plan �
         let three : d ≡ accessed c (publish_accesses p 2) (published p row left) =
         publishes ∙ ap (accessed c (publish_accesses p 2)) (ap (λ z. published p (part z (work_row p 2) (W p)) z) kept ∙ ap (λ z. published p z left) there) in
         let four : e ≡ accessed d (rest_accesses p) (sealed_words p ws) =
-        rests-again ∙ ap (accessed d (rest_accesses p)) (ap (λ z. rested p z.words) three ∙ work_lost p row left ws long (rest_after p ws room.zones row long)) in
+        rests_again ∙ ap (accessed d (rest_accesses p)) (ap (λ z. rested p z.words) three ∙ work_lost p row left ws long (rest_after p ws room.zones row long)) in
         let last = publish_accesses p 2 ++ rest_accesses p in
         let later = sum_accesses 1 (seal_plan p) ++ last in
         accessed_then s a e (rest_accesses p) (put (work_row p 0) ∷ later) _ _ rests

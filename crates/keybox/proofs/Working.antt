@@ -25,8 +25,8 @@ row_and_zeros p row ws long = over-++ ws (out_at p) row (replicate (W p) 0) ∙ 
 
 module _ (p : Profile) (i a o w n : ℕ) (s t u v : Seen) (row : a ≡ work_row p i) (out : o ≡ out_at p) (wide : w ≡ W p)
     (copied : t ≡ accessed s (copy_accesses a o w) (over s.words o (part s.words a w)))
-    (rest-zeroed : u ≡ accessed t (zero_accesses (o + w) w) (zeros t.words (o + w) w))
-    (in-zeroed : v ≡ accessed u (zero_accesses 0 n) (zeros u.words 0 n)) (all : n ≡ in_size p) where
+    (rest_zeroed : u ≡ accessed t (zero_accesses (o + w) w) (zeros t.words (o + w) w))
+    (in_zeroed : v ≡ accessed u (zero_accesses 0 n) (zeros u.words 0 n)) (all : n ≡ in_size p) where
   pub published_is : work_row p i + W p ≤ length s.words → v ≡ accessed s (publish_accesses p i) (published p (part s.words (work_row p i) (W p)) s.words)
   unfolding publish_accesses
   published_is room =

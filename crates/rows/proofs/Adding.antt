@@ -32,12 +32,12 @@ unfolding pack_accesses
 pack_added s t u v add p q from a width n w d₁ e d₂ planes joined d₃ small =
     let ws = s.words in
     let m : ℕ → ℕ = λ j. add (number (column ws a width) n j) (bit_of (get_or ws from 0) j) in
-    let t-words : t.words ≡ ws = ap (λ (z : Seen). z.words) d₁ in
-    let u-words : u.words ≡ ws = ap (λ (z : Seen). z.words) d₂ ∙ t-words in
+    let t_words : t.words ≡ ws = ap (λ (z : Seen). z.words) d₁ in
+    let u_words : u.words ≡ ws = ap (λ (z : Seen). z.words) d₂ ∙ t_words in
     let numbers : (j : ℕ) → j < 32 → number p n j ≡ m j = λ j h. joined j h ∙ ap₂ (λ (x y : ℕ). add x (bit_of y j))
-    (number_same q (column ws a width) n j (λ k l. planes k l ∙ ap (λ (vs : List ℕ). column vs a width k) t-words)) e in
+    (number_same q (column ws a width) n j (λ k l. planes k l ∙ ap (λ (vs : List ℕ). column vs a width k) t_words)) e in
     let next : column_over u.words p a width n ≡ column_over ws (plane_word m) a width n
-    = ap (λ (vs : List ℕ). column_over vs p a width n) u-words
+    = ap (λ (vs : List ℕ). column_over vs p a width n) u_words
     ∙ column_over_same ws p (plane_word m) a width n (λ k h. plane_is p n k h (small k h) ∙ packed_same (λ j. bit_of (number p n j) k) (λ j. bit_of (m j) k) (λ j l. ap (λ (x : ℕ). bit_of x k) (numbers j l))) in
     let d₂₃ = accessed_then t u v (column_accesses get a width n) (column_accesses put a width n) t.words (column_over ws (plane_word m) a width n) d₂ (d₃ ∙ ap (accessed u (column_accesses put a width n)) next) in
     accessed_then s t v (get from ∷ []) (column_accesses get a width n ++ column_accesses put a width n) ws (column_over ws (plane_word m) a width n) d₁ d₂₃
@@ -172,7 +172,7 @@ added_more add s t u from a width n w h o inv did =
     let m : ℕ → ℕ = λ j. add (lane ws a width n j) (row_at ws from j) in
     let p : ℕ → ℕ → ℕ = λ v. plane_word (λ j. m (32 * v + j)) in
     let old : List ℕ = packs_over ws p a width n w in
-    let t-words : t.words ≡ old = ap (λ (z : Seen). z.words) inv in
+    let t_words : t.words ≡ old = ap (λ (z : Seen). z.words) inv in
     let row : get_or old (from + w) 0 ≡ get_or ws (from + w) 0
     = packs_over_out ws p a width n w (from + w) (λ v k hv hk e. elim o [ inl u ↦ omega (arith, e, u) | inr u ↦ omega (arith, e, u, mul-add-lt k width v n hk (omega arith)) ]) in
     let lanes : (k : ℕ) → k < n → column old (a + w) width k ≡ get_or ws (a + k * width + w) 0
@@ -185,7 +185,7 @@ added_more add s t u from a width n w h o inv did =
     (number_bits (column old (a + w) width) (λ k. get_or ws (a + k * width + (32 * w + j) / 32) 0) n j ((32 * w + j) % 32) (λ k d. ap₂ (λ (x i : ℕ). bit_of x i) (lanes k d ∙ ap (λ (v : ℕ). get_or ws (a + k * width + v) 0) (sym place)) (sym lane_of)))
     (ap₂ (λ (x i : ℕ). bit_of x i) (row ∙ ap (λ (v : ℕ). get_or ws (from + v) 0) (sym place)) (sym lane_of)) in
     let next : column_over t.words (plane_word (λ j. add (number (column t.words (a + w) width) n j) (bit_of (get_or t.words (from + w) 0) j))) (a + w) width n ≡ packs_over ws p a width n (w + 1)
-    = ap (λ (vs : List ℕ). column_over vs (plane_word (λ j. add (number (column vs (a + w) width) n j) (bit_of (get_or vs (from + w) 0) j))) (a + w) width n) t-words
+    = ap (λ (vs : List ℕ). column_over vs (plane_word (λ j. add (number (column vs (a + w) width) n j) (bit_of (get_or vs (from + w) 0) j))) (a + w) width n) t_words
     ∙ column_over_same old (plane_word (λ j. add (number (column old (a + w) width) n j) (bit_of (get_or old (from + w) 0) j))) (p w) (a + w) width n (λ k d. packed_same (λ j. bit_of (add (number (column old (a + w) width) n j) (bit_of (get_or old (from + w) 0) j)) k) (λ j. bit_of (m (32 * w + j)) k) (λ j l. ap (λ (x : ℕ). bit_of x k) (numbers j l)))
     ∙ sym (packs_over_more ws p a width n w) in
     turned s t u (λ v. pack_accesses (from + v) (a + v) width n) w old (packs_over ws p a width n (w + 1)) inv (did ∙ ap (accessed t (pack_accesses (from + w) (a + w) width n)) next)

@@ -114,13 +114,13 @@ picked_more s t v v' u digit a b to n w x y z o o' h l l' p q e q' e' d r =
     let c = chosen digit b a in
     let in' : c + n ≤ length ws = chosen_within digit a b n (length ws) l l' in
     let old : t.words ≡ over ws to (part ws c w) = ap (λ (k : Seen). k.words) p in
-    let same-v : v.words ≡ t.words = ap (λ (k : Seen). k.words) q in
-    let same-v' : v'.words ≡ v.words = ap (λ (k : Seen). k.words) q' in
+    let same_v : v.words ≡ t.words = ap (λ (k : Seen). k.words) q in
+    let same_v' : v'.words ≡ v.words = ap (λ (k : Seen). k.words) q' in
     let first = part_kept ws a c to n w o h in' in
     let second = part_kept ws b c to n w o' h in' in
     let word = chosen_word ws digit a b w in
-    let z-is : z ≡ get_or ws (c + w) 0 = cc in
-    let next = over_part_more ws c to w z (omega arith) z-is in
+    let z_is : z ≡ get_or ws (c + w) 0 = cc in
+    let next = over_part_more ws c to w z (omega arith) z_is in
     let after : set v'.words (to + w) z ≡ over ws to (part ws c (w + 1)) = cc in
     turned s t u (λ k. get (a + k) ∷ get (b + k) ∷ put (to + k) ∷ []) w _ (over ws to (part ws c (w + 1))) p
     (accessed_then t v u (get (a + w) ∷ []) (get (b + w) ∷ put (to + w) ∷ []) t.words (over ws to (part ws c (w + 1))) q

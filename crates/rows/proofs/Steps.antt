@@ -211,9 +211,9 @@ module _ (add : ℕ → ℕ → ℕ) (n : ℕ) (p : Plan) (i : ℕ) (s t u v w :
       let k : ℕ = turn r p.direction (position_in r p.source x) in
       let laid : ℕ → ℕ → List ℕ → List ℕ = λ b a zs. over zs p.scratch (words_of r (rotated r b (row_at zs a)) ++ replicate (width r) 0) in
       let sums : List ℕ → List ℕ = λ zs. over zs p.into (planes (width r) (λ j. add (lane zs p.into (width r) n j) (row_at zs p.scratch j)) n) in
-      let u-words : u.words ≡ us
+      let u_words : u.words ≡ us
       = ap (λ (z : Seen). z.words) chose ∙ ap₂ (λ (y : ℕ) (zs : List ℕ). chosen_words r p.source p.scratch y zs) word (ap (λ (z : Seen). z.words) got) in
-      let k-is : by ≡ k = amount ∙ ap (turn r p.direction) (position ∙ ap (position_in r p.source) word) in
-      let v-words : v.words ≡ laid k (chosen_at r p.source p.scratch) us
-      = ap (λ (z : Seen). z.words) turned ∙ ap₂ (λ (b a : ℕ). laid b a u.words) k-is place ∙ ap (laid k (chosen_at r p.source p.scratch)) u-words in
-      ap (λ (z : Seen). but_room p z.words) summed ∙ ap (λ (zs : List ℕ). but_room p (sums zs)) v-words ∙ laid_added add n p ws x f
+      let k_is : by ≡ k = amount ∙ ap (turn r p.direction) (position ∙ ap (position_in r p.source) word) in
+      let v_words : v.words ≡ laid k (chosen_at r p.source p.scratch) us
+      = ap (λ (z : Seen). z.words) turned ∙ ap₂ (λ (b a : ℕ). laid b a u.words) k_is place ∙ ap (laid k (chosen_at r p.source p.scratch)) u_words in
+      ap (λ (z : Seen). but_room p z.words) summed ∙ ap (λ (zs : List ℕ). but_room p (sums zs)) v_words ∙ laid_added add n p ws x f
