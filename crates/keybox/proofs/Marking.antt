@@ -25,14 +25,6 @@ or_assoc : (a b c : Bool) → (a || (b || c)) ≡ ((a || b) || c)
 or_assoc true b c = refl
 or_assoc false b c = refl
 
--- two digits joined are a digit
-pub digit_or : (f d : ℕ) → f < 2 → d < 2 → bit_or f d < 2
-digit_or zero d hf hd = hd
-digit_or (suc zero) zero hf hd = omega arith
-digit_or (suc zero) (suc zero) hf hd = omega arith
-digit_or (suc zero) (suc (suc d)) hf hd = absurd (omega arith)
-digit_or (suc (suc f)) d hf hd = absurd (omega arith)
-
 -- the place that was noted first stays
 pub noted : (f p d q x : ℕ) → f < 2 → d < 2 → x ≡ chosen f p q
     → cond (eqb (bit_or f d) 1) (Some x) None ≡ or_else (cond (eqb f 1) (Some p) None) (when (eqb d 1) q)
@@ -65,11 +57,6 @@ first_more p n = ap (first_place p) (counting_more n) ∙ first-++ p (range_with
 pub digit_of : (b : Bool) → eqb (cond b 1 0) 1 ≡ b
 digit_of true = refl
 digit_of false = refl
-
--- a digit as a number below 2
-pub digit_lt : (b : Bool) → cond {A = ℕ} b 1 0 < 2
-digit_lt true = omega arith
-digit_lt false = omega arith
 
 -- not below a limit is at least the limit
 pub beyond : (w limit : ℕ) → eqb (1 - cond (ltb w limit) 1 0) 1 ≡ leb limit w

@@ -161,13 +161,12 @@ module _ (p : Profile) (ws : List ℕ) (room : N p ≤ length ws) where
         ∙ ap (λ ys. zeros (over prepared (work_row p 2) ys) (work_row p 3) (3 * W p))
         (words_same r _ (public_syndrome r (part ws 0 p.t) g) (λ j h. syndrome_is r (part prepared 0 p.t) g j h ∙ ap (λ qs. public_syndrome r qs g j) positions_there))
 
-    pub fits : length ws ≤ 65536 → Fits 1 (seal_plan p) prepared
-    fits few =
+    pub fits : Fits 1 (seal_plan p) prepared
+    fits =
         let long = length_prepared in
         let tail : has_tail p.r prepared (B p) ≡ false = ap (λ w. cond (eqb (p.r % 32) 0) false (leb (2 ^ (p.r % 32)) w)) (below_work (B p + (W p - 1)) (omega arith)) ∙ whole in
         let one = unit_tail p.r prepared (work_row p 0) unit_there in
         record {
-          limit = omega arith;
           long = omega arith;
           some = omega arith;
           positions = omega arith;
@@ -194,15 +193,15 @@ module _ (p : Profile) (s a b : Seen) (plan : Plan) (at : ℕ) (is_plan : plan �
     (room : Roomy p s.words) (passed : seal_input_fault p s.words ≡ None)
     (rests : a ≡ accessed s (rest_accesses p) (rested p s.words))
     (Puts-one : b ≡ accessed a (put at ∷ []) (set a.words at 1)) where
-  one_put : b ≡ accessed a (put (work_row p 0) ∷ []) (prepared p s.words room.zones)
+  one_put : b ≡ accessed a (put (work_row p 0) ∷ []) (prepared p s.words room)
   one_put =
       Puts-one ∙ (ap (λ i. accessed a (put i ∷ []) (set a.words i 1)) is_at ∙ ap (λ z. accessed a (put (work_row p 0) ∷ []) (set z.words (work_row p 0) 1)) rests)
 
   -- the sum has what it needs
   pub sum_fits : Fits 1 plan b.words
   sum_fits =
-      let words : prepared p s.words room.zones ≡ b.words = sym (ap (λ z. z.words) one_put) in
-      subst (λ q. Fits 1 q b.words) (sym is_plan) (subst (Fits 1 (seal_plan p)) words (fits p s.words room.zones passed room.limit))
+      let words : prepared p s.words room ≡ b.words = sym (ap (λ z. z.words) one_put) in
+      subst (λ q. Fits 1 q b.words) (sym is_plan) (subst (Fits 1 (seal_plan p)) words (fits p s.words room passed))
 
   module _ (c d e : Seen)
       (sums : c ≡ accessed b (sum_accesses 1 plan) (sum_words parity 1 plan b.words))
@@ -214,19 +213,19 @@ module _ (p : Profile) (s a b : Seen) (plan : Plan) (at : ℕ) (is_plan : plan �
         let ws = s.words in
         let row = words_of p.r (public_syndrome p.r (part ws 0 p.t) (row_at ws (B p))) in
         let long : length row ≡ W p = length-map-range_with_len (word_of p.r (public_syndrome p.r (part ws 0 p.t) (row_at ws (B p)))) 0 (W p) in
-        let left = zeros (over (prepared p ws room.zones) (work_row p 2) row) (work_row p 3) (3 * W p) in
+        let left = zeros (over (prepared p ws room) (work_row p 2) row) (work_row p 3) (3 * W p) in
         let two : c ≡ accessed b (sum_accesses 1 (seal_plan p)) left =
         sums ∙ (ap (λ q. accessed b (sum_accesses 1 q) (sum_words parity 1 q b.words)) is_plan
-        ∙ ap (accessed b (sum_accesses 1 (seal_plan p))) (ap (λ z. sum_words parity 1 (seal_plan p) z.words) one_put ∙ summed_up p ws room.zones passed)) in
+        ∙ ap (accessed b (sum_accesses 1 (seal_plan p))) (ap (λ z. sum_words parity 1 (seal_plan p) z.words) one_put ∙ summed_up p ws room passed)) in
         let kept : c.words ≡ left = ap (λ z. z.words) two in
         let there : part left (work_row p 2) (W p) ≡ row =
-        part_zeros (over (prepared p ws room.zones) (work_row p 2) row) (work_row p 2) (W p) (work_row p 3) (3 * W p) (inl (omega arith))
-        ∙ (ap (λ n. part (over (prepared p ws room.zones) (work_row p 2) row) (work_row p 2) n) (sym long)
-        ∙ part_over (prepared p ws room.zones) (work_row p 2) row (omega (arith, length_prepared p ws room.zones, long))) in
+        part_zeros (over (prepared p ws room) (work_row p 2) row) (work_row p 2) (W p) (work_row p 3) (3 * W p) (inl (omega arith))
+        ∙ (ap (λ n. part (over (prepared p ws room) (work_row p 2) row) (work_row p 2) n) (sym long)
+        ∙ part_over (prepared p ws room) (work_row p 2) row (omega (arith, length_prepared p ws room, long))) in
         let three : d ≡ accessed c (publish_accesses p 2) (published p row left) =
         publishes ∙ ap (accessed c (publish_accesses p 2)) (ap (λ z. published p (part z (work_row p 2) (W p)) z) kept ∙ ap (λ z. published p z left) there) in
         let four : e ≡ accessed d (rest_accesses p) (sealed_words p ws) =
-        rests_again ∙ ap (accessed d (rest_accesses p)) (ap (λ z. rested p z.words) three ∙ work_lost p row left ws long (rest_after p ws room.zones row long)) in
+        rests_again ∙ ap (accessed d (rest_accesses p)) (ap (λ z. rested p z.words) three ∙ work_lost p row left ws long (rest_after p ws room row long)) in
         let last = publish_accesses p 2 ++ rest_accesses p in
         let later = sum_accesses 1 (seal_plan p) ++ last in
         accessed_then s a e (rest_accesses p) (put (work_row p 0) ∷ later) _ _ rests

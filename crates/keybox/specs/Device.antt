@@ -45,10 +45,9 @@ abbrev pub input_verdict : {X : Type 0} → Result X InputFault → ℕ
 input_verdict (Ok x) = 0
 input_verdict (Err f) = (input_told f).number
 
--- the words of a memory have room for the zones, and are no more than any memory has
-pub record Roomy (p : Profile) (ws : List ℕ) : Type 0 where
-  pub zones : N p ≤ length ws
-  pub limit : length ws ≤ 65536
+-- the words of a memory have room for the zones
+abbrev pub Roomy : Profile → List ℕ → Type 0
+Roomy p ws = N p ≤ length ws
 
 -- What every call promises. effect: what it answers and the box that it leaves. seen: the accesses that it made, worked out from what is public;
 -- with them the trail, and that the step rule and all that no address reaches are as they were.

@@ -13,29 +13,31 @@ ghost use Rattle.keybox.specs.Marks.{marked, or_else};
 
 use crate::mark::Mark;
 use memory::Memory;
-use rows::masks::{equal, less, select};
+use rows::masks::{Choice, One};
 use scheme::profile::Profile;
 
 impl Mark {
     fn none() -> Mark
         ensures { marked result ≡ None }
     {
-        Mark { found: 0, place: 0 }
+        Mark {
+            found: Choice::no(),
+            place: 0,
+        }
     }
 
-    // Notes a place where the digit is 1, unless one was noted before.
-    fn note(&mut self, digit: u32, place: u32)
-        requires { digit < 2 }
-        ensures { marked self.new ≡ or_else (marked self.old) (when (digit == 1) place) }
+    // Notes a place where the choice is yes, unless one was noted before.
+    fn note(&mut self, here: Choice, place: u32)
+        ensures { marked self.new ≡ or_else (marked self.old) (when (here.digit == 1) place) }
     {
-        self.place = select(self.found, self.place, place);
-        self.found = self.found | digit;
+        self.place = self.found.select(self.place, place);
+        self.found = self.found.or(here);
     }
 
     fn outcome(self) -> Option<u32>
         ensures { result ≡ marked self }
     {
-        if self.found == 1 {
+        if self.found.reveal() {
             Some(self.place)
         } else {
             None
@@ -44,42 +46,37 @@ impl Mark {
 }
 
 // The first of the n places of IN whose word is not below a limit.
-pub(crate) fn first_beyond<M: Memory>(m: &mut M, n: u32, limit: u32, one: u32) -> Option<u32>
+pub(crate) fn first_beyond<M: Memory>(m: &mut M, n: u32, limit: u32, one: One) -> Option<u32>
     requires within { n ≤ length (M.Memory.seen m.old).words }
-    requires one { one ≡ 1 }
     ensures value { result ≡ first_place (λ i. nat_le limit (slice_index (M.Memory.seen m.old).words i)) (range_with_len 0 n) }
     ensures did { M.Memory.seen m.new ≡ accessed (M.Memory.seen m.old) (read_accesses 0 n) (M.Memory.seen m.old).words }
 {
     let mut mark = Mark::none();
     for i in 0..n {
         let word = m.get_within(i);
-        mark.note(1 - less(word, limit, one), i);
+        mark.note(one.less(word, limit).not(), i);
     }
     mark.outcome()
 }
 
-// 1 where a word stands among the i words from `at` on, and 0 elsewhere.
-fn stands_in<M: Memory>(m: &mut M, at: u32, i: u32, word: u32, one: u32) -> u32
+// Whether a word stands among the i words from `at` on.
+fn stands_in<M: Memory>(m: &mut M, at: u32, i: u32, word: u32, one: One) -> Choice
     requires within { at + i ≤ length (M.Memory.seen m.old).words }
-    requires limit { length (M.Memory.seen m.old).words ≤ 65536 }
-    requires one { one ≡ 1 }
-    ensures value { result ≡ (if earlier (drop at (M.Memory.seen m.old).words) word i then 1 else 0) }
+    ensures value { result.digit ≡ (if earlier (drop at (M.Memory.seen m.old).words) word i then 1 else 0) }
     ensures did { M.Memory.seen m.new ≡ accessed (M.Memory.seen m.old) (read_accesses at i) (M.Memory.seen m.old).words }
 {
-    let mut found = 0;
+    let mut found = Choice::no();
     for j in 0..i {
         let other = m.get_within(at + j);
-        found = found | equal(other, word, one);
+        found = found.or(one.equal(other, word));
     }
     found
 }
 
 // The first of the n words from `at` on that stands among those before it, told by its place among the n.
 // All pairs are compared: a table of the words seen would be looked up at addresses that tell them.
-pub(crate) fn first_again<M: Memory>(m: &mut M, at: u32, n: u32, one: u32) -> Option<u32>
+pub(crate) fn first_again<M: Memory>(m: &mut M, at: u32, n: u32, one: One) -> Option<u32>
     requires within { at + n ≤ length (M.Memory.seen m.old).words }
-    requires limit { length (M.Memory.seen m.old).words ≤ 65536 }
-    requires one { one ≡ 1 }
     ensures value { result ≡ first_place (again (part (M.Memory.seen m.old).words at n)) (range_with_len 0 n) }
     ensures did { M.Memory.seen m.new ≡ accessed (M.Memory.seen m.old) (pair_accesses at n) (M.Memory.seen m.old).words }
 {

@@ -12,7 +12,7 @@ use crate::device::KeyBox;
 use crate::work::{publish, rest, work_row};
 use memory::Memory;
 use rows::lanes::Parity;
-use rows::masks::hidden_one;
+use rows::masks::One;
 use rows::plan::{Direction, Plan, Source};
 use rows::sum::sum;
 use scheme::fault::{BoxFault, InputFault};
@@ -24,7 +24,7 @@ pub(crate) fn check_errors<M: Memory>(m: &mut M, profile: &Profile) -> Result<()
     ensures value { result ≡ checked (seal_input_fault profile.now (M.Memory.seen m.old).words) }
     ensures did { M.Memory.seen m.new ≡ accessed (M.Memory.seen m.old) (seal_check_accesses profile.now (input_verdict result)) (M.Memory.seen m.old).words }
 {
-    let one = hidden_one(profile.r);
+    let one = One::hidden(profile.r);
     if let Some(place) = first_beyond(m, profile.t, 2 * profile.r, one) {
         return Err(InputFault::ErrorRange(place));
     }

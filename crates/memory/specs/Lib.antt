@@ -1,3 +1,4 @@
 pub mod Access
 pub mod Words
 pub mod Layers
+pub mod Kinds

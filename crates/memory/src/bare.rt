@@ -3,6 +3,7 @@
 
 ghost use Rattle.std.specs.Prelude.{◌≡◌, ◌≤◌, length, slice_index};
 ghost use Rattle.memory.specs.Layers.{bare, reached, written};
+ghost use Rattle.std.proofs.Common.{arith, length-take};
 
 use crate::Memory;
 
@@ -39,11 +40,7 @@ fn reach(words: &[u32]) -> u32
     ensures value { result ≡ length (reached words.now) }
     ensures bound { result ≤ 65536 }
 {
-    if words.len() < 65536 {
-        words.len() as u32
-    } else {
-        65536
-    }
+    words.len().min(65536) as u32
 }
 
 // The word at `a`, or 0 where the address reaches none.
@@ -68,6 +65,8 @@ fn write_word(words: &mut [u32], a: u32, w: u32)
 
 impl<'a> Memory for Bare<'a> {
     ghost seen = { λ m. bare m.words.ghost_name m.words.now };
+
+    ghost limited = { λ m. Prim.omega (arith, length-take 65536 m.words.now) };
 
     fn size(&self) -> u32 {
         reach(self.words)

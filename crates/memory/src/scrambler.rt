@@ -2,7 +2,8 @@
 // A pad depends on the seed and the address alone, so that each access is one access below, at the same address.
 
 ghost use Rattle.std.specs.Prelude.{◌≡◌};
-ghost use Rattle.memory.specs.Layers.{scrambler, pad};
+ghost use Rattle.memory.specs.Layers.{scrambler, pad, length_padded};
+ghost use Rattle.std.proofs.Common.{rules};
 
 use crate::{HeardMemory, Memory};
 
@@ -30,6 +31,8 @@ impl<M: Memory> Scrambler<M> {
 
 impl<M: Memory> Memory for Scrambler<M> {
     ghost seen = { λ s. scrambler s.seed (M.Memory.seen s.below) };
+
+    ghost limited = { λ s. Prim.search (rules, length_padded s.seed 0 (M.Memory.seen s.below).words, M.Memory.limited s.below) };
 
     fn size(&self) -> u32 {
         self.below.size()

@@ -3,15 +3,19 @@
 
 ghost use Rattle.std.specs.Prelude.{◌≡◌, [], ◌∷◌, length, replicate};
 ghost use Rattle.memory.specs.Layers.{tape, mixed, first};
+ghost use Rattle.memory.specs.Kinds.{kind_number};
+ghost use Rattle.std.proofs.Common.{rules};
 
 use crate::{HeardMemory, Memory};
 
 const SIZE: usize = 8192;
 
-// The kinds of access.
-const GET: u32 = 0;
-
-const PUT: u32 = 1;
+// The kinds of access, in the order of the numbers that they bring to the trail.
+#[derive(Clone, Copy)]
+enum Kind {
+    Get,
+    Put,
+}
 
 #[derive(Drop)]
 pub struct Tape {
@@ -33,27 +37,29 @@ impl Tape {
     }
 
     // Moves the trail on by an access.
-    fn step(&mut self, kind: u32, a: u32)
+    fn step(&mut self, kind: Kind, a: u32)
         ensures words { self.new.words ≡ self.old.words }
-        ensures trail { self.new.trail ∷ [] ≡ mixed (self.old.trail ∷ []) kind a }
+        ensures trail { self.new.trail ∷ [] ≡ mixed (self.old.trail ∷ []) (kind_number kind) a }
     {
         self.trail = self
             .trail
             .wrapping_mul(31)
             .wrapping_add(a.wrapping_mul(2))
-            .wrapping_add(kind);
+            .wrapping_add(kind as u32);
     }
 }
 
 impl Memory for Tape {
     ghost seen = { λ m. tape m.words m.trail };
 
+    ghost limited = { Prim.search rules };
+
     fn size(&self) -> u32 {
         SIZE as u32
     }
 
     fn get(&mut self, a: u32) -> u32 {
-        self.step(GET, a);
+        self.step(Kind::Get, a);
         if (a as usize) < SIZE {
             self.words[a as usize]
         } else {
@@ -62,19 +68,19 @@ impl Memory for Tape {
     }
 
     fn put(&mut self, a: u32, w: u32) {
-        self.step(PUT, a);
+        self.step(Kind::Put, a);
         if (a as usize) < SIZE {
             self.words[a as usize] = w;
         }
     }
 
     fn get_within(&mut self, a: u32) -> u32 {
-        self.step(GET, a);
+        self.step(Kind::Get, a);
         self.words[a as usize]
     }
 
     fn put_within(&mut self, a: u32, w: u32) {
-        self.step(PUT, a);
+        self.step(Kind::Put, a);
         self.words[a as usize] = w;
     }
 }

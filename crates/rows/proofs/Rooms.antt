@@ -113,7 +113,6 @@ fits_kept : (n : ℕ) (p : Plan) (vs us : List ℕ) → length vs ≡ length us 
 fits_kept n p vs us long h f =
     let some : 0 < p.r = omega (arith, f.long) in
     record {
-      limit = omega (arith, f.limit);
       long = f.long;
       some = f.some;
       positions = omega (arith, f.positions);

@@ -87,15 +87,14 @@ either_tail r ws a b to true some ha hb ht ea eb = copied_tail r ws a to some ha
 either_tail r ws a b to false some ha hb ht ea eb = copied_tail r ws b to some hb ht ∙ eb
 
 -- the row chosen can be rotated in the room
-chosen_turnable : (r : ℕ) (source : Source) (scratch q by : ℕ) (ws : List ℕ) → length ws ≤ 65536 → 2 ≤ r → by < r
+chosen_turnable : (r : ℕ) (source : Source) (scratch q by : ℕ) (ws : List ℕ) → 2 ≤ r → by < r
     → scratch + room source * width r ≤ length ws → RowsApart r source ws scratch (room source * width r)
     → Turnable r (chosen_at r source scratch) scratch by (chosen_words r source scratch q ws)
-chosen_turnable r (One a) scratch q by ws limit long lt space o =
-    record { limit = limit; long = long; by = lt; source = o.0; space = space; apart = o.1; tail = o.2 }
-chosen_turnable r (Either a b) scratch q by ws limit long lt space o =
+chosen_turnable r (One a) scratch q by ws long lt space o =
+    record { long = long; by = lt; source = o.0; space = space; apart = o.1; tail = o.2 }
+chosen_turnable r (Either a b) scratch q by ws long lt space o =
     let size = length_chosen r (Either a b) scratch q ws in
     record {
-      limit = omega (arith, size);
       long = long;
       by = lt;
       source = omega (arith, size, space);
@@ -110,7 +109,7 @@ pub turnable : (n : ℕ) (p : Plan) (ws vs us : List ℕ) (q from pos by : ℕ) 
 turnable n p ws vs us q from pos by f ev eu ef ep eb =
     let some : 0 < p.r = omega (arith, f.long) in
     let lt : turn p.r p.direction pos < p.r = turn_lt p.r p.direction pos (rw ep (position_lt p.r p.source q some)) in
-    rw (eu, ev, ef, eb) (chosen_turnable p.r p.source p.scratch q (turn p.r p.direction pos) ws f.limit f.long lt f.space f.rows_space)
+    rw (eu, ev, ef, eb) (chosen_turnable p.r p.source p.scratch q (turn p.r p.direction pos) ws f.long lt f.space f.rows_space)
 
 cut_lt : (r : ℕ) (x : Row) (j : ℕ) → x j < 2 → cut r x j < 2
 cut_lt r x j h = cond_both (ltb j r) (x j) 0 (λ b. b < 2) (λ e. h) (λ e. omega arith)
@@ -147,8 +146,8 @@ room_holds : (source : Source) (n : ℕ) → n ≤ room source * n
 room_holds source n = omega (arith, room_two source n)
 
 -- a row is at most as long as the words
-pub width_small : (n : ℕ) (p : Plan) (ws : List ℕ) → Fits n p ws → width p.r ≤ 65536
-width_small n p ws f = omega (arith, f.limit, f.space, room_holds p.source (width p.r))
+pub width_small : (n : ℕ) (p : Plan) (ws : List ℕ) → length ws ≤ 65536 → Fits n p ws → width p.r ≤ 65536
+width_small n p ws limit f = omega (arith, f.space, room_holds p.source (width p.r))
 
 -- the result lies apart from the row that is added
 pub row_apart : (n : ℕ) (p : Plan) (ws : List ℕ) → Fits n p ws → Apart p.scratch (width p.r) p.into (n * width p.r)

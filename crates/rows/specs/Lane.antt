@@ -1,5 +1,5 @@
 -- Numbers that lie across planes of words, bit-sliced: bit k of the number in lane j is bit j of plane k.
-use Rattle.std.specs.Prelude.{ℕ, zero, suc, ◌+◌, ◌*◌, ◌/◌, ◌%◌, ◌^◌, List, [], ◌∷◌, ◌++◌, map, slice_index, slice_set}
+use Rattle.std.specs.Prelude.{ℕ, zero, suc, ◌+◌, ◌*◌, ◌/◌, ◌%◌, ◌^◌, ◌<◌, List, [], ◌∷◌, ◌++◌, map, length, slice_index, slice_set}
 use Rattle.std.specs.List.{range_with_len}
 use Rattle.memory.specs.Access.{Access, get, put}
 use Rattle.rows.specs.Rows.{bit_of, packed}
@@ -25,9 +25,12 @@ abbrev pub planes : ℕ → (ℕ → ℕ) → ℕ → List ℕ
 planes width n zero = []
 planes width n (suc k) = planes width n k ++ plane_words width n k
 
--- one pack of 32 lanes lies in a column of the words, a word of each plane: what is there, and the words with p k written there
+-- one pack of 32 lanes lies in a column of the words, a word of each plane: what is there, that all of it is, and the words with p k written there
 abbrev pub column : List ℕ → ℕ → ℕ → ℕ → ℕ
 column ws a width k = slice_index ws (a + k * width)
+
+abbrev pub ColumnWithin : ℕ → ℕ → ℕ → List ℕ → Type 0
+ColumnWithin depth a width ws = (k : ℕ) → k < depth → a + k * width < length ws
 
 unfoldable pub column_over : List ℕ → (ℕ → ℕ) → ℕ → ℕ → ℕ → List ℕ
 column_over ws p a width zero = ws

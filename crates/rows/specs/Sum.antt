@@ -99,7 +99,6 @@ RowsApart r (Either a c) ws b n = RowApart r a ws b n × RowApart r c ws b n
 
 -- the positions, the rows, the result and the room of a sum lie in the words and apart from each other, and there is a position
 pub record Fits (depth : ℕ) (p : Plan) (ws : List ℕ) : Type 0 where
-  pub limit : length ws ≤ 65536
   pub long : 2 ≤ p.r
   pub some : 1 ≤ p.count
   pub positions : p.at + p.count ≤ length ws

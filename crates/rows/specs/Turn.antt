@@ -44,7 +44,6 @@ rotate_accesses r from scratch =
 
 -- a row of r bits at `from`, with no bit past its end, can be rotated by i in the two rows at `scratch`
 pub record Turnable (r from scratch i : ℕ) (ws : List ℕ) : Type 0 where
-  pub limit : length ws ≤ 65536
   pub long : 2 ≤ r
   pub by : i < r
   pub source : from + width r ≤ length ws

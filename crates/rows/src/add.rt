@@ -5,15 +5,14 @@ ghost use Rattle.std.specs.Prelude.{◌≡◌, ℕ, ◌+◌, ◌*◌, ◌^◌, �
 ghost use Rattle.memory.specs.Access.{accessed, get as gets, put as puts};
 ghost use Rattle.memory.specs.Words.{over, Apart};
 ghost use Rattle.rows.specs.Rows.{bit_of, row_at};
-ghost use Rattle.rows.specs.Lane.{number, lane, plane_word, planes, column, column_over, column_accesses, pack_accesses, add_accesses};
+ghost use Rattle.rows.specs.Lane.{number, lane, plane_word, planes, ColumnWithin, column, column_over, column_accesses, pack_accesses, add_accesses};
 
 use super::lanes::Lanes;
 use memory::Memory;
 
 // The pack whose planes stand at `at`, `at + width`, and so on.
 fn load<L: Lanes, M: Memory>(m: &mut M, at: u32, width: u32) -> L
-    requires limit { length (M.Memory.seen m.old).words ≤ 65536 }
-    requires space { (k : ℕ) → k < L.Lanes.depth → at + k * width < length (M.Memory.seen m.old).words }
+    requires space { ColumnWithin L.Lanes.depth at width (M.Memory.seen m.old).words }
     ensures planes { (k : ℕ) → k < L.Lanes.depth → L.Lanes.plane result k ≡ column (M.Memory.seen m.old).words at width k }
     ensures did { M.Memory.seen m.new ≡ accessed (M.Memory.seen m.old) (column_accesses gets at width L.Lanes.depth) (M.Memory.seen m.old).words }
 {
@@ -27,8 +26,7 @@ fn load<L: Lanes, M: Memory>(m: &mut M, at: u32, width: u32) -> L
 
 // Puts the planes of a pack at `at`, `at + width`, and so on.
 fn store<L: Lanes, M: Memory>(m: &mut M, pack: &L, at: u32, width: u32)
-    requires limit { length (M.Memory.seen m.old).words ≤ 65536 }
-    requires space { (k : ℕ) → k < L.Lanes.depth → at + k * width < length (M.Memory.seen m.old).words }
+    requires space { ColumnWithin L.Lanes.depth at width (M.Memory.seen m.old).words }
     ensures planes { (k : ℕ) → k < L.Lanes.depth → L.Lanes.plane pack.now k < 2 ^ 32 }
     ensures did { M.Memory.seen m.new ≡ accessed (M.Memory.seen m.old) (column_accesses puts at width L.Lanes.depth) (column_over (M.Memory.seen m.old).words (L.Lanes.plane pack.now) at width L.Lanes.depth) }
 {
@@ -40,9 +38,8 @@ fn store<L: Lanes, M: Memory>(m: &mut M, pack: &L, at: u32, width: u32)
 
 // Adds the word at `from` to the pack whose planes stand at `at`, `at + width`, and so on.
 fn add_pack<L: Lanes + Drop, M: Memory>(m: &mut M, from: u32, at: u32, width: u32)
-    requires limit { length (M.Memory.seen m.old).words ≤ 65536 }
     requires source { from < length (M.Memory.seen m.old).words }
-    requires space { (k : ℕ) → k < L.Lanes.depth → at + k * width < length (M.Memory.seen m.old).words }
+    requires space { ColumnWithin L.Lanes.depth at width (M.Memory.seen m.old).words }
     ensures did { M.Memory.seen m.new ≡ accessed (M.Memory.seen m.old) (pack_accesses from at width L.Lanes.depth) (column_over (M.Memory.seen m.old).words (plane_word (λ j. L.Lanes.add (number (column (M.Memory.seen m.old).words at width) L.Lanes.depth j) (bit_of (slice_index (M.Memory.seen m.old).words from) j))) at width L.Lanes.depth) }
 {
     let word = m.get_within(from);
@@ -53,7 +50,6 @@ fn add_pack<L: Lanes + Drop, M: Memory>(m: &mut M, from: u32, at: u32, width: u3
 
 // Adds bit j of the row of `width` words at `from` to the number in lane j of the planes at `into`.
 pub fn add_row<L: Lanes + Drop, M: Memory>(m: &mut M, from: u32, into: u32, width: u32)
-    requires limit { length (M.Memory.seen m.old).words ≤ 65536 }
     requires source { from + width ≤ length (M.Memory.seen m.old).words }
     requires space { into + L.Lanes.depth * width ≤ length (M.Memory.seen m.old).words }
     requires apart { Apart from width into (L.Lanes.depth * width) }

@@ -1,18 +1,17 @@
 // Words of a memory written one after another: zeroed, copied, or chosen between two rows.
 // Each promise is one equation: the words afterwards and the accesses made.
 
-ghost use Rattle.std.specs.Prelude.{◌≡◌, ◌+◌, ◌<◌, ◌≤◌, length};
+ghost use Rattle.std.specs.Prelude.{◌≡◌, ◌+◌, ◌≤◌, length};
 ghost use Rattle.memory.specs.Access.{accessed};
 ghost use Rattle.memory.specs.Words.{over, zeros, Apart};
 ghost use Rattle.rows.specs.Masks.{chosen};
 ghost use Rattle.rows.specs.Fill.{part, zero_accesses, copy_accesses, pick_accesses};
 
-use super::masks::select;
+use super::masks::Choice;
 use memory::Memory;
 
 // Puts 0 into the `n` words at `a`.
 pub fn zero<M: Memory>(m: &mut M, a: u32, n: u32)
-    requires limit { length (M.Memory.seen m.old).words ≤ 65536 }
     requires space { a + n ≤ length (M.Memory.seen m.old).words }
     ensures did { M.Memory.seen m.new ≡ accessed (M.Memory.seen m.old) (zero_accesses a n) (zeros (M.Memory.seen m.old).words a n) }
 {
@@ -23,7 +22,6 @@ pub fn zero<M: Memory>(m: &mut M, a: u32, n: u32)
 
 // Copies the `n` words at `from` to `to`.
 pub fn copy<M: Memory>(m: &mut M, from: u32, to: u32, n: u32)
-    requires limit { length (M.Memory.seen m.old).words ≤ 65536 }
     requires source { from + n ≤ length (M.Memory.seen m.old).words }
     requires space { to + n ≤ length (M.Memory.seen m.old).words }
     requires apart { Apart from n to n }
@@ -36,19 +34,17 @@ pub fn copy<M: Memory>(m: &mut M, from: u32, to: u32, n: u32)
 }
 
 // Writes to `to` the `n` words at `a` where the digit is 0, and those at `b` where it is 1. Both are read, word by word.
-pub fn pick<M: Memory>(m: &mut M, digit: u32, a: u32, b: u32, to: u32, n: u32)
-    requires limit { length (M.Memory.seen m.old).words ≤ 65536 }
-    requires digit { digit < 2 }
+pub fn pick<M: Memory>(m: &mut M, digit: Choice, a: u32, b: u32, to: u32, n: u32)
     requires first { a + n ≤ length (M.Memory.seen m.old).words }
     requires second { b + n ≤ length (M.Memory.seen m.old).words }
     requires space { to + n ≤ length (M.Memory.seen m.old).words }
     requires first_apart { Apart a n to n }
     requires second_apart { Apart b n to n }
-    ensures did { M.Memory.seen m.new ≡ accessed (M.Memory.seen m.old) (pick_accesses a b to n) (over (M.Memory.seen m.old).words to (part (M.Memory.seen m.old).words (chosen digit b a) n)) }
+    ensures did { M.Memory.seen m.new ≡ accessed (M.Memory.seen m.old) (pick_accesses a b to n) (over (M.Memory.seen m.old).words to (part (M.Memory.seen m.old).words (chosen digit.digit b a) n)) }
 {
     for w in 0..n {
         let first = m.get_within(a + w);
         let second = m.get_within(b + w);
-        m.put_within(to + w, select(digit, second, first));
+        m.put_within(to + w, digit.select(second, first));
     }
 }

@@ -11,4 +11,5 @@ pub mod plan;
 pub mod position;
 pub mod ring;
 pub mod rotate;
+pub mod row;
 pub mod sum;

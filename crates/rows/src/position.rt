@@ -3,38 +3,35 @@
 ghost use Rattle.std.specs.Prelude.{◌≡◌, ◌<◌};
 ghost use Rattle.rows.specs.Sum.{as_position, half, index, turn as turned};
 
-use super::masks::{less, opposite, select};
+use super::masks::{Choice, One};
 use super::plan::Direction;
 
 // The word where it is below `r`, and 0 elsewhere.
-pub fn as_position(r: u32, word: u32, one: u32) -> u32
-    requires one { one ≡ 1 }
-    ensures value { result ≡ as_position r word }
+pub fn as_position(r: u32, word: u32, one: One) -> u32
+    ensures { result ≡ as_position r word }
 {
-    select(less(word, r, one), word, 0)
+    one.less(word, r).select(word, 0)
 }
 
 // A position taken apart into its half, 0 below `r` and 1 from there on, and its place in that half.
-pub fn apart(r: u32, position: u32, one: u32) -> (u32, u32)
-    requires one { one ≡ 1 }
-    ensures half { result.0 ≡ half r position }
+pub fn apart(r: u32, position: u32, one: One) -> (Choice, u32)
+    ensures half { result.0.digit ≡ half r position }
     ensures index { result.1 ≡ index r position }
 {
-    let first = less(position, r, one);
+    let first = one.less(position, r);
     (
-        one - first,
-        select(first, position, position.wrapping_sub(r)),
+        first.not(),
+        first.select(position, position.wrapping_sub(r)),
     )
 }
 
 // By how much a position rotates.
-pub fn turn(r: u32, direction: Direction, position: u32, one: u32) -> u32
-    requires one { one ≡ 1 }
-    requires position { position < r }
-    ensures value { result ≡ turned r direction position }
+pub fn turn(r: u32, direction: Direction, position: u32, one: One) -> u32
+    requires { position < r }
+    ensures { result ≡ turned r direction position }
 {
     match direction {
         Direction::Up => position,
-        Direction::Down => opposite(r, position, one),
+        Direction::Down => one.opposite(r, position),
     }
 }

@@ -5,12 +5,13 @@
 ghost use Rattle.std.specs.Prelude.{◌≡◌, ◌+◌, ◌-◌, ◌*◌, ◌/◌, ◌%◌, ◌^◌, ◌<◌, ◌≤◌, ◌∷◌, ◌++◌, length, replicate};
 ghost use Rattle.memory.specs.Access.{accessed, get};
 ghost use Rattle.memory.specs.Words.{over, Apart};
-ghost use Rattle.rows.specs.Rows.{width, row_at, rotated, words_of};
+ghost use Rattle.rows.specs.Rows.{width as words_taken, row_at, rotated, words_of};
 ghost use Rattle.rows.specs.Turn.{Turnable, reach, rotate_accesses, twice_accesses, stage_accesses, slide_accesses};
 ghost use Rattle.rows.specs.Number.{word, row, doubled, filled, staged, slid, cut_slid};
 
 use super::fill::zero;
-use super::masks::{hidden_one, opposite, select};
+use super::masks::{Choice, One};
+use super::row::width;
 use memory::Memory;
 
 // The lowest `t` bits of a word.
@@ -22,18 +23,15 @@ fn lowest(x: u32, t: u32) -> u32
 }
 
 // `y` shifted down by 2^k bits where digit `k` of `s` is 1.
-fn moved(y: u64, s: u32, k: u32, one: u32) -> u64
+fn moved(y: u64, s: u32, k: u32, one: One) -> u64
     requires digit { k < 6 }
-    requires one { one ≡ 1 }
     ensures value { result ≡ y / 2 ^ (s / 2 ^ k % 2 * 2 ^ k) }
 {
-    let mask = ((s >> k & one) as u64).wrapping_neg();
-    y ^ (mask & (y >> (1u32 << k) ^ y))
+    one.digit(s, k).select_wide(y >> (1u32 << k), y)
 }
 
 // The 32 bits from bit s mod 32 on of two neighbouring words.
-fn slide(lo: u32, hi: u32, s: u32, one: u32) -> u32
-    requires one { one ≡ 1 }
+fn slide(lo: u32, hi: u32, s: u32, one: One) -> u32
     ensures value { result ≡ slid lo hi (s % 32) }
 {
     let mut both = (hi as u64) << 32 | lo as u64;
@@ -46,9 +44,8 @@ fn slide(lo: u32, hi: u32, s: u32, one: u32) -> u32
 // Lays the row of `r` bits at `from`, of `n` words, twice at `to`, one copy after the other.
 // The second copy begins within the word that the first one ends in, and each word of it passes on what it cannot hold.
 fn lay_twice<M: Memory>(m: &mut M, r: u32, from: u32, to: u32, n: u32)
-    requires limit { length (M.Memory.seen m.old).words ≤ 65536 }
     requires long { 0 < r }
-    requires size { n ≡ width r }
+    requires size { n ≡ words_taken r }
     requires source { from + n ≤ length (M.Memory.seen m.old).words }
     requires space { to + 2 * n ≤ length (M.Memory.seen m.old).words }
     requires apart { Apart from n to (2 * n) }
@@ -73,27 +70,23 @@ fn lay_twice<M: Memory>(m: &mut M, r: u32, from: u32, to: u32, n: u32)
 
 // Shifts what is left of a row of `n` words, laid twice at `base`, down by `v` words where the digit is 1.
 // It writes as many words as what follows can read. The word further up is read first, which lets the compiler take several at once.
-fn stage<M: Memory>(m: &mut M, n: u32, base: u32, v: u32, digit: u32)
-    requires limit { length (M.Memory.seen m.old).words ≤ 65536 }
+fn stage<M: Memory>(m: &mut M, n: u32, base: u32, v: u32, digit: Choice)
     requires space { base + 2 * n ≤ length (M.Memory.seen m.old).words }
     requires by { v < n }
-    requires digit { digit < 2 }
-    ensures did { M.Memory.seen m.new ≡ accessed (M.Memory.seen m.old) (stage_accesses base v (reach n v)) (filled (M.Memory.seen m.old).words base (staged (M.Memory.seen m.old).words base v digit) (reach n v)) }
+    ensures did { M.Memory.seen m.new ≡ accessed (M.Memory.seen m.old) (stage_accesses base v (reach n v)) (filled (M.Memory.seen m.old).words base (staged (M.Memory.seen m.old).words base v digit.digit) (reach n v)) }
 {
     for w in 0..(n + v).min(2 * n - v) {
         let far = m.get_within(base + w + v);
         let near = m.get_within(base + w);
-        m.put_within(base + w, select(digit, far, near));
+        m.put_within(base + w, digit.select(far, near));
     }
 }
 
 // Shifts the n + 1 words at `base` down by s mod 32 bits, and cuts what is left to `r` bits, which take `n` words.
-fn finish<M: Memory>(m: &mut M, r: u32, base: u32, n: u32, s: u32, one: u32)
-    requires limit { length (M.Memory.seen m.old).words ≤ 65536 }
+fn finish<M: Memory>(m: &mut M, r: u32, base: u32, n: u32, s: u32, one: One)
     requires long { 0 < r }
-    requires size { n ≡ width r }
+    requires size { n ≡ words_taken r }
     requires space { base + n + 1 ≤ length (M.Memory.seen m.old).words }
-    requires one { one ≡ 1 }
     ensures did { M.Memory.seen m.new ≡ accessed (M.Memory.seen m.old) (get base ∷ slide_accesses base n) (filled (M.Memory.seen m.old).words base (cut_slid (M.Memory.seen m.old).words base r (s % 32)) n) }
 {
     let q = n - 1;
@@ -112,15 +105,15 @@ pub fn rotate<M: Memory>(m: &mut M, r: u32, from: u32, scratch: u32, by: u32, co
     requires fits { Turnable r from scratch by (M.Memory.seen m.old).words }
     requires next { count + 1 < 2 ^ 32 }
     ensures count { result ≡ count + 1 }
-    ensures did { M.Memory.seen m.new ≡ accessed (M.Memory.seen m.old) (rotate_accesses r from scratch) (over (M.Memory.seen m.old).words scratch (words_of r (rotated r by (row_at (M.Memory.seen m.old).words from)) ++ replicate (width r) 0)) }
+    ensures did { M.Memory.seen m.new ≡ accessed (M.Memory.seen m.old) (rotate_accesses r from scratch) (over (M.Memory.seen m.old).words scratch (words_of r (rotated r by (row_at (M.Memory.seen m.old).words from)) ++ replicate (words_taken r) 0)) }
 {
-    let n = (r + 31) / 32;
-    let one = hidden_one(r);
-    let down = opposite(r, by, one);
+    let n = width(r);
+    let one = One::hidden(r);
+    let down = one.opposite(r, by);
     lay_twice(m, r, from, scratch, n);
     // The digits from 32 on shift whole words; `finish` takes the five below them.
     for e in (0..32 - (n - 1).leading_zeros()).rev() {
-        stage(m, n, scratch, 1u32 << e, down / 32 >> e & one);
+        stage(m, n, scratch, 1u32 << e, one.digit(down / 32, e));
     }
     finish(m, r, scratch, n, down, one);
     zero(m, scratch + n, n);

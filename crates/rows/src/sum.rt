@@ -9,16 +9,14 @@ ghost use Rattle.rows.specs.Sum.{Fits, RowsApart, room as rows, chosen_at, chose
 use super::add::add_row;
 use super::fill::{pick, zero};
 use super::lanes::Lanes;
-use super::masks::hidden_one;
+use super::masks::One;
 use super::plan::{Plan, Source};
 use super::position::{apart, as_position, turn};
 use super::rotate::rotate;
 use memory::Memory;
 
 // Where the row lies that the position rotates, and the position in its half. Of two rows the chosen one is brought to the room first.
-fn choose<M: Memory>(m: &mut M, plan: Plan, position: u32, one: u32) -> (u32, u32)
-    requires one { one ≡ 1 }
-    requires limit { length (M.Memory.seen m.old).words ≤ 65536 }
+fn choose<M: Memory>(m: &mut M, plan: Plan, position: u32, one: One) -> (u32, u32)
     requires space { plan.scratch + rows plan.source * width plan.r ≤ length (M.Memory.seen m.old).words }
     requires rows { RowsApart plan.r plan.source (M.Memory.seen m.old).words plan.scratch (rows plan.source * width plan.r) }
     ensures from { result.0 ≡ chosen_at plan.r plan.source plan.scratch }
@@ -28,10 +26,9 @@ fn choose<M: Memory>(m: &mut M, plan: Plan, position: u32, one: u32) -> (u32, u3
     match plan.source {
         Source::One(a) => (a, as_position(plan.r, position, one)),
         Source::Either(a, b) => {
-            let width = (plan.r + 31) / 32;
-            let to = plan.scratch + 2 * width;
+            let to = plan.scratch + 2 * plan.width();
             let (half, index) = apart(plan.r, position, one);
-            pick(m, half, a, b, to, width);
+            pick(m, half, a, b, to, plan.width());
             (to, as_position(plan.r, index, one))
         }
     }
@@ -46,25 +43,13 @@ fn step<L: Lanes + Drop, M: Memory>(m: &mut M, plan: Plan, i: u32, count: u32) -
     ensures words { but_room plan (M.Memory.seen m.new).words ≡ but_room plan (step_words L.Lanes.add L.Lanes.depth plan i (M.Memory.seen m.old).words) }
     ensures did { M.Memory.seen m.new ≡ accessed (M.Memory.seen m.old) (step_accesses L.Lanes.depth plan i) (M.Memory.seen m.new).words }
 {
-    let one = hidden_one(plan.r);
+    let one = One::hidden(plan.r);
     let word = m.get_within(plan.at + i);
     let (from, position) = choose(m, plan, word, one);
     let by = turn(plan.r, plan.direction, position, one);
     let next = rotate(m, plan.r, from, plan.scratch, by, count);
-    add_row::<L, M>(m, plan.scratch, plan.into, (plan.r + 31) / 32);
+    add_row::<L, M>(m, plan.scratch, plan.into, plan.width());
     next
-}
-
-// How many words of room a sum needs.
-fn room(plan: Plan) -> u32
-    requires width { width plan.r ≤ 65536 }
-    ensures value { result ≡ rows plan.source * width plan.r }
-{
-    let width = (plan.r + 31) / 32;
-    match plan.source {
-        Source::One(_) => 2 * width,
-        Source::Either(_, _) => 3 * width,
-    }
 }
 
 // Adds the row of each position, rotated by it, to the numbers at `plan.into`, and answers the count of rotations. The room is zero afterwards.
@@ -78,6 +63,6 @@ pub fn sum<L: Lanes + Drop, M: Memory>(m: &mut M, plan: Plan, count: u32) -> u32
     for i in 0..plan.count {
         turned = step::<L, M>(m, plan, i, turned);
     }
-    zero(m, plan.scratch, room(plan));
+    zero(m, plan.scratch, plan.room());
     turned
 }

@@ -6,5 +6,5 @@ use Rattle.keybox.proofs.checks.stands_in.Given as goal
 
 abbrev pub invariant-loop-j : goal.invariant-loop-j
 invariant-loop-j g l =
-    (l.found ≡ cond (earlier (drop l.at (g.M.Memory.seen l.initial.m).words) l.word l.j) 1 0)
+    (l.found.digit ≡ cond (earlier (drop l.at (g.M.Memory.seen l.initial.m).words) l.word l.j) 1 0)
     × (g.M.Memory.seen l.m ≡ accessed (g.M.Memory.seen l.initial.m) (read_accesses l.at l.j) (g.M.Memory.seen l.initial.m).words)

@@ -21,7 +21,7 @@ publish-requires g c =
     let a = simp length_over at (ap size c.rest.ensures) in
     let b = simp length-set at (ap size c.put_within.ensures.did) in
     let d = simp length_over at (ap size c.sum-count.ensures.did) in
-    record { room = record { zones = omega arith; limit = omega arith }; row = omega arith }
+    record { room = omega arith; row = omega arith }
 
 pub rest-requires-2 : goal.rest-requires-2
 rest-requires-2 g c =
@@ -29,7 +29,7 @@ rest-requires-2 g c =
     let b = simp length-set at (ap size c.put_within.ensures.did) in
     let d = simp length_over at (ap size c.sum-count.ensures.did) in
     let e = simp length_over at (ap size c.publish.ensures) in
-    record { zones = omega arith; limit = omega arith }
+    omega arith
 
 pub returns : goal.returns
 returns g c =

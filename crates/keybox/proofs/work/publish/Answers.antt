@@ -8,18 +8,18 @@ use Rattle.keybox.proofs.work.publish.Goals as goal
 pub copy-requires : goal.copy-requires
 copy-requires g c =
     let inside = row_inside c.args.profile.now c.args.i c.requires.row in
-    record { limit = omega arith; source = omega arith; space = omega arith; apart = inr (omega arith) }
+    record { source = omega arith; space = omega arith; apart = inr (omega arith) }
 
 pub zero-requires : goal.zero-requires
 zero-requires g c =
     let long = simp length_over at (ap size c.copy.ensures.did) in
-    record { limit = omega arith; space = omega arith }
+    record { space = omega arith }
 
 pub zero-requires-2 : goal.zero-requires-2
 zero-requires-2 g c =
     let long = simp length_over at (ap size c.copy.ensures.did) in
     let same = simp length_over at (ap size c.zero.ensures.did) in
-    record { limit = omega arith; space = omega arith }
+    record { space = omega arith }
 
 pub returns : goal.returns
 returns g c =

@@ -1,8 +1,5 @@
 use Rattle.std.proofs.Common.{arith, length-take}
 use Rattle.memory.proofs.bare.reach.Goals as goal
 
-pub returns-then-words-lt65536 : goal.returns-then-words-lt65536
-returns-then-words-lt65536 c = record { value = simp length-take (omega arith); bound = omega arith }
-
-pub returns-else-words-lt65536 : goal.returns-else-words-lt65536
-returns-else-words-lt65536 c = record { value = simp length-take (omega arith); bound = omega arith }
+pub returns-clause-value : goal.returns-clause-value
+returns-clause-value c = omega (arith, length-take 65536 c.args.words.now, c.min.ensures)

@@ -10,7 +10,7 @@ loop-w-init g c = added_none g.L.Lanes.add _ _ _ _ _
 pub add_pack-requires : goal.add_pack-requires
 add_pack-requires g c =
     let long = simp length_packs_over at (ap size c.loop-w.invariant) in
-    record { limit = omega arith; source = omega arith; space = column_within _ _ _ _ _ c.loop-w-test.true (omega arith) }
+    record { source = omega arith; space = column_within _ _ _ _ _ c.loop-w-test.true (omega arith) }
 
 pub loop-w-preserved : goal.loop-w-preserved
 loop-w-preserved g c =

@@ -1,8 +1,6 @@
 -- The row is laid twice, shifted down stage by stage and then within the words, and its second half is zeroed.
-use Rattle.std.proofs.Common.{ℕ, ◌-◌, ◌/◌, refl, ap, arith}
+use Rattle.std.proofs.Common.{ℕ, ◌-◌, refl, ap, arith}
 use Rattle.std.proofs.lemmas.Nat.{one_shl}
-use Rattle.rows.specs.Rows.{width}
-use Rattle.rows.proofs.Masking.{digit_is}
 use Rattle.rows.proofs.Loops.{size}
 use Rattle.rows.proofs.Filling.{length_filled}
 use Rattle.rows.proofs.Stages.{ahead_all, ahead_less}
@@ -11,13 +9,12 @@ use Rattle.rows.proofs.rotate.rotate.Goals as goal
 
 pub lay_twice-requires : goal.lay_twice-requires
 lay_twice-requires g c = record {
-  limit = omega arith;
   long = omega arith;
-  size = refl;
+  size = c.width-n.ensures;
   source = omega arith;
   space = omega arith;
-  apart = c.requires.fits.apart;
-  tail = row_tail _ _ _ (omega arith) c.requires.fits.tail;
+  apart = rw c.width-n.ensures c.requires.fits.apart;
+  tail = rw c.width-n.ensures (row_tail _ _ _ (omega arith) c.requires.fits.tail);
 }
 
 pub loop-e-init : goal.loop-e-init
@@ -28,25 +25,21 @@ stage-requires g c =
     let long = simp length_filled at (ap size c.lay_twice.ensures.did) in
     let e : ℕ = c.loop-e.e - 1 in
     record {
-      limit = omega (arith, c.loop-e.invariant.long);
       space = omega (arith, c.loop-e.invariant.long);
-      by = omega (arith, one_shl e 32 (omega arith), digits_needed (width c.args.r) e (omega arith) (omega arith) (omega arith));
-      digit = omega (arith, digit_is (c.opposite-down.result / 32) e c.hidden_one-one.result c.hidden_one-one.ensures.value);
+      by = omega (arith, one_shl e 32 (omega arith), digits_needed c.width-n.result e (omega arith) (omega arith) (omega arith));
     }
 
 pub loop-e-preserved : goal.loop-e-preserved
 loop-e-preserved g c =
-    ahead_less _ _ _ _ _ _ _ _ _ _ _ (omega arith) (one_shl (c.loop-e.e - 1) 32 (omega arith)) (digit_is _ _ _ c.hidden_one-one.ensures.value) c.loop-e.invariant c.stage.ensures.did
+    ahead_less _ _ _ _ _ _ _ _ _ _ _ (omega arith) (one_shl (c.loop-e.e - 1) 32 (omega arith)) c.digit.ensures c.loop-e.invariant c.stage.ensures.did
 
 pub finish-requires : goal.finish-requires
 finish-requires g c =
     let long = simp length_filled at (ap size c.lay_twice.ensures.did) in
     record {
-      limit = omega (arith, c.loop-e.invariant.long);
       long = omega arith;
-      size = refl;
+      size = c.width-n.ensures;
       space = omega (arith, c.loop-e.invariant.long);
-      one = c.hidden_one-one.ensures.value;
     }
 
 pub zero-requires : goal.zero-requires
@@ -54,13 +47,12 @@ zero-requires g c =
     let long = simp length_filled at (ap size c.lay_twice.ensures.did) in
     let last = simp length_filled at (ap size c.finish.ensures.did) in
     record {
-      limit = omega (arith, c.loop-e.invariant.long);
       space = omega (arith, c.loop-e.invariant.long);
     }
 
 pub returns : goal.returns
 returns g c = record {
   count = refl;
-  did = turned_all _ _ _ _ _ _ _ _ _ _ _ (omega arith) (omega arith) (row_tail _ _ _ (omega arith) c.requires.fits.tail) c.opposite-down.ensures.value (omega arith) (omega arith)
-      c.lay_twice.ensures.did c.loop-e.invariant c.finish.ensures.did c.zero.ensures.did;
+  did = turned_all _ _ _ _ _ _ _ _ _ _ _ (omega arith) (omega arith) (row_tail _ _ _ (omega arith) c.requires.fits.tail) c.opposite-down.ensures (omega arith) (omega arith)
+      (rw c.width-n.ensures at c.lay_twice.ensures.did) (rw c.width-n.ensures at c.loop-e.invariant) (rw c.width-n.ensures at c.finish.ensures.did) (rw c.width-n.ensures at c.zero.ensures.did);
 }

@@ -22,7 +22,7 @@ put_within-requires g c =
 pub loop-w-preserved : goal.loop-w-preserved
 loop-w-preserved g c =
     stage_more _ _ _ _ _ _ _ _ _ _ _ _ c.loop-w.invariant c.get_within-far.ensures.did c.get_within-far.ensures.value
-    c.get_within-near.ensures.did c.get_within-near.ensures.value c.select.ensures.value c.put_within.ensures.did
+    c.get_within-near.ensures.did c.get_within-near.ensures.value c.select.ensures c.put_within.ensures.did
 
 pub returns : goal.returns
 returns g c =

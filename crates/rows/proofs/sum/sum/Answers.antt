@@ -20,10 +20,10 @@ loop-i-preserved g c =
 pub zero-requires : goal.zero-requires
 zero-requires g c =
     let fits = going_fits g.L.Lanes.add g.L.Lanes.depth c.args.plan _ _ _ c.requires.fits c.loop-i.invariant.1 in
-    record { limit = fits.limit; space = rw c.room.ensures.value fits.space }
+    record { space = rw c.room.ensures fits.space }
 
 pub returns : goal.returns
 returns g c = record {
   count = omega (arith, c.loop-i.invariant.0);
-  did = going_all g.L.Lanes.add g.L.Lanes.depth c.args.plan _ _ _ _ g.met.L.Lanes.within c.requires.fits (omega arith) c.loop-i.invariant.1 (rw c.room.ensures.value at c.zero.ensures.did);
+  did = going_all g.L.Lanes.add g.L.Lanes.depth c.args.plan _ _ _ _ g.met.L.Lanes.within c.requires.fits (omega arith) c.loop-i.invariant.1 (rw c.room.ensures at c.zero.ensures.did);
 }

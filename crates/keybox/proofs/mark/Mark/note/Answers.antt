@@ -1,8 +1,10 @@
-use Rattle.keybox.proofs.Marking.{digit_or, noted}
+use Rattle.std.proofs.Common.{cond, eqb, ap, ◌∙◌}
+use Rattle.std.specs.Prelude.{Some, None}
+use Rattle.keybox.proofs.Marking.{noted}
 use Rattle.keybox.proofs.mark.Mark.note.Goals as goal
 
-pub invariant_of-self : goal.invariant_of-self
-invariant_of-self c = record { digit = digit_or _ _ c.args.self.now.digit c.requires }
-
 pub returns : goal.returns
-returns c = noted _ _ _ _ _ c.args.self.now.digit c.requires c.select-self.ensures.value
+returns c =
+    let found = c.args.self.now.found in
+    ap (λ d. cond (eqb d 1) (Some c.select-self.result) None) c.or-self.ensures
+    ∙ noted found.digit _ c.args.here.digit _ _ found.binary c.args.here.binary c.select-self.ensures

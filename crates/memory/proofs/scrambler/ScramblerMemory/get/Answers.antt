@@ -1,7 +1,8 @@
 use Rattle.std.proofs.Common.{sym, ◌∙◌, arith}
 use Rattle.std.proofs.lemmas.List.{get_or_past}
 use Rattle.memory.specs.Layers.{padded}
-use Rattle.memory.proofs.Pads.{length_padded, scrambler_get}
+use Rattle.memory.specs.Layers.{length_padded}
+use Rattle.memory.proofs.Pads.{scrambler_get}
 use Rattle.memory.proofs.scrambler.ScramblerMemory.get.Goals as goal
 
 pub get_within-requires : goal.get_within-requires

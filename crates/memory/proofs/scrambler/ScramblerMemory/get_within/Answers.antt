@@ -1,5 +1,6 @@
 use Rattle.std.proofs.Common.{arith}
-use Rattle.memory.proofs.Pads.{length_padded, padded_at, scrambler_get}
+use Rattle.memory.specs.Layers.{length_padded}
+use Rattle.memory.proofs.Pads.{padded_at, scrambler_get}
 use Rattle.memory.proofs.scrambler.ScramblerMemory.get_within.Goals as goal
 
 pub get_within-requires : goal.get_within-requires

@@ -1,5 +1,6 @@
 use Rattle.std.proofs.Common.{arith}
-use Rattle.memory.proofs.Pads.{length_padded, scrambler_put}
+use Rattle.memory.specs.Layers.{length_padded}
+use Rattle.memory.proofs.Pads.{scrambler_put}
 use Rattle.memory.proofs.scrambler.ScramblerMemory.put_within.Goals as goal
 
 pub put_within-requires : goal.put_within-requires

@@ -1,5 +1,5 @@
 use Rattle.std.proofs.Common.{rules}
-use Rattle.memory.proofs.Pads.{length_padded}
+use Rattle.memory.specs.Layers.{length_padded}
 use Rattle.memory.proofs.scrambler.ScramblerMemory.size.Goals as goal
 
 pub returns : goal.returns

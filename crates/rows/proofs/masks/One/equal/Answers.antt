@@ -2,7 +2,7 @@
 use Rattle.std.proofs.Common.{◌≡◌, ℕ, cond, eqb, ltb, sym, ap, ◌∙◌, inl, inr, arith}
 use lib.Bits.{bit_xor, xor_self, xor_assoc, xor_zero_r}
 use Rattle.std.proofs.lemmas.Bool.{cases_eq, eq-eqb, ne_eqb, lt-ltb, le-ltb}
-use Rattle.rows.proofs.masks.equal.Goals as goal
+use Rattle.rows.proofs.masks.One.equal.Goals as goal
 
 -- numbers whose sum modulo 2 is 0 are equal
 xor_none : (a b : ℕ) → bit_xor a b ≡ 0 → a ≡ b
@@ -21,4 +21,4 @@ is_equal a b =
     ]
 
 pub returns : goal.returns
-returns c = record { value = c.less.ensures.value ∙ ap (λ t. cond t 1 0) (is_equal c.args.a c.args.b) }
+returns c = c.less.ensures ∙ ap (λ t. cond t 1 0) (is_equal c.args.a c.args.b)
