@@ -8,10 +8,6 @@ pub traced-++ : (rule : Rule) (tr : List ℕ) (xs ys : List Access) → traced r
 traced-++ rule tr [] ys = refl
 traced-++ rule tr (x ∷ xs) ys = traced-++ rule (rule tr x.kind x.address) xs ys
 
--- a memory after no access
-pub accessed_none : (s : Seen) → s ≡ accessed s [] s.words
-accessed_none s = refl
-
 -- accesses that follow on accesses are one list of them
 pub accessed_then : (s t u : Seen) (xs ys : List Access) (vs ws : List ℕ) → t ≡ accessed s xs vs → u ≡ accessed t ys ws → u ≡ accessed s (xs ++ ys) ws
 accessed_then s t u xs ys vs ws p q = let e = traced-++ s.rule s.trail xs ys in cc

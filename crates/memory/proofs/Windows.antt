@@ -1,12 +1,10 @@
 -- What a window over a memory is after an access of the memory below.
 -- An address that it shows is the access below at that address from the base on; any other leaves both as they were.
-use Rattle.std.proofs.Common.{◌≡◌, ℕ, ◌+◌, ◌<◌, ◌≤◌, leb, List, [], ◌∷◌, length, get_or, drop, set, sym, refl, ap, ◌∙◌, inl, inr, arith, length-drop, length-set, length-take, drop-set-lt}
+use Rattle.std.proofs.Common.{◌≡◌, ℕ, ◌+◌, ◌<◌, ◌≤◌, leb, List, [], ◌∷◌, length, drop, set, refl, inl, inr, arith, length-drop, length-set, length-take, drop-set-lt}
 use lib.Seq.{drop-set-add, take-set-lt, take-set-le}
-use Rattle.std.proofs.lemmas.List.{set_past}
-use Rattle.std.proofs.lemmas.Bool.{cases_Bool, leb-true, lt-ltb, le-ltb}
-use Rattle.memory.specs.Access.{Seen, get, put, accessed}
+use Rattle.std.proofs.lemmas.Bool.{cases_Bool, leb-true, lt-ltb}
+use Rattle.memory.specs.Access.{Seen, put, accessed}
 use Rattle.memory.specs.Layers.{spanned, window}
-use Rattle.memory.proofs.Words.{part_at}
 
 -- a window has as many words as it spans
 pub length_window : (b n : ℕ) (s : Seen) → length (window b n s).words ≡ spanned b n (length s.words)
@@ -25,14 +23,6 @@ module _ (b n : ℕ) (s : Seen) (a p : ℕ) (h : a < length (window b n s).words
   pub place_in : p < length s.words
   place_in = omega (arith, length-take (spanned b n (length s.words)) (drop b s.words), length-drop b s.words)
 
-  -- its word is the one shown
-  pub place_word : get_or s.words p 0 ≡ get_or (window b n s).words a 0
-  place_word = rw e (sym (part_at s.words b (spanned b n (length s.words)) a within))
-
-  -- a get there is a get of the window
-  pub place_get : (t : Seen) → t ≡ accessed s (get p ∷ []) s.words → window b n t ≡ accessed (window b n s) (get a ∷ []) (window b n s).words
-  place_get t d = let k = lt-ltb a (spanned b n (length s.words)) within in cc
-
   -- a put there is a put of the window, and leaves the hidden words
   pub place_put : (t : Seen) (w : ℕ) → t ≡ accessed s (put p ∷ []) (set s.words p w) → window b n t ≡ accessed (window b n s) (put a ∷ []) (set (window b n s).words a w)
   place_put t w d =
@@ -45,11 +35,3 @@ module _ (b n : ℕ) (s : Seen) (a p : ℕ) (h : a < length (window b n s).words
       let before = take-set-le b ws (b + a) w (omega arith) in
       let after = drop-set-lt (b + m) ws (b + a) w (omega (arith, within)) in
       cc
-
--- an address that a window does not show accesses nothing
-pub window_skip : (b n : ℕ) (s : Seen) (kind a : ℕ) → length (window b n s).words ≤ a → window b n s ≡ accessed (window b n s) (record { kind = kind; address = a } ∷ []) (window b n s).words
-window_skip b n s kind a h = let k = le-ltb a (spanned b n (length s.words)) (omega (arith, length_window b n s)) in rw k refl
-
--- a put there changes no word
-pub window_put_skip : (b n : ℕ) (s : Seen) (a w : ℕ) → length (window b n s).words ≤ a → window b n s ≡ accessed (window b n s) (put a ∷ []) (set (window b n s).words a w)
-window_put_skip b n s a w h = window_skip b n s 1 a h ∙ ap (accessed (window b n s) (put a ∷ [])) (sym (set_past (window b n s).words a w h))

@@ -122,10 +122,6 @@ pub zeros_more : (ws : List ℕ) (a n : ℕ) → zeros ws a (n + 1) ≡ set (zer
 zeros_more ws a n =
     rw (← replicate_more) (over_more ws a (replicate n 0) 0 ∙ ap (λ k. set (zeros ws a n) (a + k) 0) (length-replicate n 0))
 
--- a put outside the zeros may come before them
-pub set_zeros : (ws : List ℕ) (a n i w : ℕ) → (i < a) ⊎ (a + n ≤ i) → set (zeros ws a n) i w ≡ zeros (set ws i w) a n
-set_zeros ws a n i w h = set_over ws a (replicate n 0) i w (rw length-replicate h)
-
 -- whatever was written inside the part is lost under zeros
 pub zeros_inside : (ws : List ℕ) (a : ℕ) (xs : List ℕ) (b n : ℕ) → b ≤ a → a + length xs ≤ b + n → zeros (over ws a xs) b n ≡ zeros ws b n
 zeros_inside ws a xs b n h l = over_inside ws a xs b (replicate n 0) h (rw length-replicate l)
@@ -133,10 +129,6 @@ zeros_inside ws a xs b n h l = over_inside ws a xs b (replicate n 0) h (rw lengt
 -- zeros inside the part are lost under zeros
 pub zeros_zeros : (ws : List ℕ) (a m b n : ℕ) → b ≤ a → a + m ≤ b + n → zeros (zeros ws a m) b n ≡ zeros ws b n
 zeros_zeros ws a m b n h l = zeros_inside ws a (replicate m 0) b n h (rw length-replicate l)
-
--- zeros inside the part are lost when the part is written over
-pub over_zeros : (ws : List ℕ) (a n b : ℕ) (ys : List ℕ) → b ≤ a → a + n ≤ b + length ys → over (zeros ws a n) b ys ≡ over ws b ys
-over_zeros ws a n b ys h l = over_inside ws a (replicate n 0) b ys h (rw length-replicate l)
 
 -- zeros and a part that lies apart may be written in either order
 pub zeros_comm : (ws : List ℕ) (a : ℕ) (xs : List ℕ) (b n : ℕ) → Apart a (length xs) b n → zeros (over ws a xs) b n ≡ over (zeros ws b n) a xs
