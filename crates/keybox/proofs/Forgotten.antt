@@ -1,6 +1,6 @@
 -- After a granted wipe a box answers as one newly opened. No call looks past the words of the zones,
 -- so a box does what a box with these words alone does, and after a wipe they are zero, as after opening.
-use Rattle.std.proofs.Common.{◌≡◌, ℕ, ◌+◌, ◌-◌, ◌*◌, ◌≤◌, false, leb, List, [], ◌∷◌, ◌++◌, length, get_or, take, replicate, Some, None, Option, sym, refl, ap, ◌∙◌, arith, length-take}
+use Rattle.std.proofs.Common.{◌≡◌, ℕ, ◌+◌, ◌-◌, ◌*◌, ◌≤◌, false, leb, List, [], ◌∷◌, ◌++◌, length, get_or, take, replicate, Some, None, Ok, Option, sym, refl, ap, ◌∙◌, arith, length-take}
 use Rattle.std.specs.List.{range_with_len}
 use Rattle.std.specs.Option.{option_map}
 use Rattle.std.proofs.lemmas.List.{get_or-take}
@@ -16,7 +16,7 @@ use Rattle.scheme.specs.declared.fault.BoxFault.{BoxFault}
 use Rattle.scheme.specs.declared.fault.BoxFault.TheVariants.{MemorySmall, OutsideZone, SlipOut, Input}
 use Rattle.keybox.specs.declared.call.Call.{Call}
 use Rattle.keybox.specs.declared.call.Call.TheVariants.{Give, Take, Seal, Wipe}
-use Rattle.keybox.specs.declared.call.Answer.TheVariants.{Done, Word, Rotations}
+use Rattle.keybox.specs.declared.call.Grant.TheVariants.{Done, Word, Rotations}
 use Rattle.scheme.specs.Zones.{W, B, in_size, out_at, out_size, work_at, work_size, N}
 use Rattle.keybox.specs.Model.{State, Outcome, first, when, first_place, again, grants, small, with_words, opened, place_fault, seal_input_fault, seal_fault, public_syndrome, left_half, right_half, sealed_words, wipe_fault, next}
 use Rattle.keybox.specs.Accesses.{verdict}
@@ -80,16 +80,16 @@ module _ (s : State) (room : N s.profile ≤ length s.words) where
   front_next : (c : Call) → fronted (next s c) ≡ next (front s) c
   front_next (Give i w) =
       grants_front (place_fault s (in_size s.profile) i) _ s _ _ (place_fault_front (in_size s.profile) i)
-      (λ _. ap (λ ws. record { answer = Done; after = with_words s ws }) (take_over (N s.profile) s.words i (w ∷ [])))
+      (λ _. ap (λ ws. record { answer = Ok Done; after = with_words s ws }) (take_over (N s.profile) s.words i (w ∷ [])))
   front_next (Take i) =
       grants_front (place_fault s (out_size s.profile) i) _ s _ _ (place_fault_front (out_size s.profile) i)
-      (λ e. ap (λ w. record { answer = Word w; after = front s }) (sym (get_or-take (N s.profile) s.words (out_at s.profile + i) 0 (omega (arith, inside s (out_size s.profile) i e)))))
+      (λ e. ap (λ w. record { answer = Ok (Word w); after = front s }) (sym (get_or-take (N s.profile) s.words (out_at s.profile + i) 0 (omega (arith, inside s (out_size s.profile) i e)))))
   front_next Seal =
       grants_front (seal_fault s) _ s _ _ seal_fault_front
-      (λ _. ap (λ ws. record { answer = Rotations s.profile.t; after = with_words s ws }) (sealed_front s.profile s.words))
+      (λ _. ap (λ ws. record { answer = Ok (Rotations s.profile.t); after = with_words s ws }) (sealed_front s.profile s.words))
   front_next Wipe =
       grants_front (wipe_fault s) _ s _ _ wipe_fault_front
-      (λ _. ap (λ ws. record { answer = Done; after = record { profile = s.profile; number = s.number; loaded = false; out = s.out; words = ws } }) (take_over (N s.profile) s.words 0 (replicate (N s.profile) 0)))
+      (λ _. ap (λ ws. record { answer = Ok Done; after = record { profile = s.profile; number = s.number; loaded = false; out = s.out; words = ws } }) (take_over (N s.profile) s.words 0 (replicate (N s.profile) 0)))
 
 -- so a box with the words of its zones alone gives the same answers
 front_answers : (s : State) (cs : List Call) → N s.profile ≤ length s.words → answers s cs ≡ answers (front s) cs

@@ -1,18 +1,17 @@
 -- A call is granted, or refused with the box left as it was: what holds of both outcomes holds of the call.
-use Rattle.std.proofs.Common.{◌≡◌, ℕ, ◌<◌, ◌≤◌, Bool, true, false, ltb, leb, List, [], ◌∷◌, length, Some, None, Option, refl, arith}
+use Rattle.std.proofs.Common.{◌≡◌, ℕ, ◌<◌, ◌≤◌, Bool, true, false, ltb, leb, List, [], ◌∷◌, length, Some, None, Err, Option, refl, arith}
 use Rattle.std.proofs.lemmas.Bool.{ltb-false, leb-false, le-ltb, cond-false}
 use Rattle.memory.specs.Words.{zeros}
 use Rattle.scheme.specs.declared.profile.Profile.{Profile}
 use Rattle.scheme.specs.declared.fault.InputFault.TheVariants.{ErrorRange, ErrorTwice, PublicTail}
 use Rattle.scheme.specs.declared.fault.BoxFault.{BoxFault}
 use Rattle.scheme.specs.declared.fault.BoxFault.TheVariants.{MemorySmall, OutsideZone, SlipOut, Input}
-use Rattle.keybox.specs.declared.call.Answer.TheVariants.{Refused}
 use Rattle.scheme.specs.Faults.{number}
 use Rattle.keybox.specs.Model.{State, Outcome, first, when, grants, small, opened, place_fault}
 use Rattle.scheme.specs.Zones.{N}
 
 abbrev pub refused : State → BoxFault → Outcome
-refused s f = record { answer = Refused f; after = s }
+refused s f = record { answer = Err f; after = s }
 
 -- the fault of the check that refused, if one did
 pub either_way : (P : Outcome → Type 0) (f : Option BoxFault) (s : State) (o : Outcome)

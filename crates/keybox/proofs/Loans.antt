@@ -1,12 +1,11 @@
 -- A box over a lent memory does what a box over the memory itself would do: no call looks at what ties a loan to its lender.
-use Rattle.std.proofs.Common.{◌≡◌, ℕ, Bool, true, false, cond, eqb, List, [], ◌∷◌, length, get_or, take, drop, refl, ap, ◌∙◌}
+use Rattle.std.proofs.Common.{◌≡◌, ℕ, Bool, true, false, cond, eqb, List, [], ◌∷◌, length, get_or, take, drop, Ok, refl, ap, ◌∙◌}
 use Rattle.std.proofs.lemmas.Bool.{cond_both}
 use Rattle.memory.specs.Access.{Seen, accessed}
 use Rattle.scheme.specs.declared.profile.Profile.{Profile}
 use Rattle.keybox.specs.declared.call.Call.{Call}
-use Rattle.keybox.specs.declared.call.Answer.{Answer}
-use Rattle.keybox.specs.declared.call.Answer.TheVariants.{Done}
-use Rattle.keybox.specs.Model.{State, opened}
+use Rattle.keybox.specs.declared.call.Grant.TheVariants.{Done}
+use Rattle.keybox.specs.Model.{State, Answer, opened}
 use Rattle.keybox.specs.Accesses.{verdict, open_accesses}
 use Rattle.keybox.specs.Lent.{Driven, called, drive, newly_opened, lent_words}
 
@@ -38,13 +37,13 @@ drive_behind name t (c ∷ cs) =
 -- It begins with the state s and the memory m1; in the end it has answered a, and has the memory m2.
 module _ (p : Profile) (u k : ℕ) (m : Seen) (calls : Profile → List Call) (s : State) (k1 : ℕ) (m1 : Seen)
     (state : s ≡ opened p u m.words) (seen : behind k1 m1 ≡ accessed (behind k m) (open_accesses p (length m.words)) s.words) where
-  lent_start : record { answer = Done; box = s; memory = behind k1 m1 } ≡ driven_behind k (newly_opened p u m)
+  lent_start : record { answer = Ok Done; box = s; memory = behind k1 m1 } ≡ driven_behind k (newly_opened p u m)
   lent_start =
-      ap (λ (n : Seen). record { answer = Done; box = s; memory = n }) seen
-      ∙ ap (λ (t : State). record { answer = Done; box = t; memory = accessed (behind k m) (open_accesses p (length m.words)) t.words }) state
+      ap (λ (n : Seen). record { answer = Ok Done; box = s; memory = n }) seen
+      ∙ ap (λ (t : State). record { answer = Ok Done; box = t; memory = accessed (behind k m) (open_accesses p (length m.words)) t.words }) state
 
   pub lent_end : (a : Answer) (s2 : State) (k2 : ℕ) (m2 : Seen)
-      → record { answer = a; box = s2; memory = behind k2 m2 } ≡ drive (record { answer = Done; box = s; memory = behind k1 m1 }) (calls s.profile)
+      → record { answer = a; box = s2; memory = behind k2 m2 } ≡ drive (record { answer = Ok Done; box = s; memory = behind k1 m1 }) (calls s.profile)
       → (a ≡ (drive (newly_opened p u m) (calls p)).answer) × (k2 ≡ k) × (m2 ≡ (drive (newly_opened p u m) (calls p)).memory)
   lent_end a s2 k2 m2 did =
       let end : record { answer = a; box = s2; memory = behind k2 m2 } ≡ driven_behind k (drive (newly_opened p u m) (calls p))

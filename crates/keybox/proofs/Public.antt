@@ -1,10 +1,10 @@
 -- What is public after a call, and the rotations it answers, follow from what was public before it, its shape and its verdict.
-use Rattle.std.proofs.Common.{◌≡◌, ℕ, zero, suc, ◌+◌, ◌≤◌, Bool, false, length, get_or, refl, ap, ◌∙◌, arith, length-set}
+use Rattle.std.proofs.Common.{◌≡◌, ℕ, zero, suc, ◌+◌, ◌≤◌, Bool, false, length, get_or, Ok, refl, ap, ◌∙◌, arith, length-set}
 use Rattle.memory.proofs.Words.{length_over, length_zeros}
 use Rattle.scheme.specs.declared.fault.BoxFault.{BoxFault}
 use Rattle.keybox.specs.declared.call.Call.{Call}
 use Rattle.keybox.specs.declared.call.Call.TheVariants.{Give, Take, Seal, Wipe}
-use Rattle.keybox.specs.declared.call.Answer.TheVariants.{Word}
+use Rattle.keybox.specs.declared.call.Grant.TheVariants.{Word}
 use Rattle.scheme.specs.Zones.{in_size, out_at, out_size, N}
 use Rattle.scheme.specs.Faults.{number}
 use Rattle.keybox.specs.Model.{State, Outcome, place_fault, seal_fault, wipe_fault, next}
@@ -50,7 +50,7 @@ moves s (Give i w) =
     either_way (Moves s (gives i)) (place_fault s (in_size s.profile) i) s _ (refusal_moves s (gives i))
     (λ _. ap (sized s s.loaded s.out 0) (length-set s.words i w))
 moves s (Take i) =
-    either_way (Moves s (takes i)) (place_fault s (out_size s.profile) i) s (record { answer = Word (get_or s.words (out_at s.profile + i) 0); after = s })
+    either_way (Moves s (takes i)) (place_fault s (out_size s.profile) i) s (record { answer = Ok (Word (get_or s.words (out_at s.profile + i) 0)); after = s })
     (refusal_moves s (takes i)) (λ _. refl)
 moves s Seal =
     either_way (Moves s seals) (seal_fault s) s _ (refusal_moves s seals)

@@ -13,7 +13,7 @@ use Rattle.memory.proofs.Words.{over_set, zeros_inside, zeros_zeros, part_over, 
 use Rattle.rows.specs.Rows.{Row, bit_of, unit, rotated, kept, row_at, word_of, words_of, has_tail}
 use Rattle.std.proofs.lemmas.List.FromFn.{length-map-range_with_len}
 use Rattle.scheme.specs.declared.fault.BoxFault.TheVariants.{MemorySmall, SlipOut, Input}
-use Rattle.keybox.specs.declared.call.Answer.TheVariants.{Rotations}
+use Rattle.keybox.specs.declared.call.Grant.TheVariants.{Rotations}
 use Rattle.keybox.specs.Device.{Roomy, granted, checked}
 use Rattle.keybox.proofs.Working.{work_lost}
 use Rattle.rows.specs.Sum.{index}
@@ -254,12 +254,12 @@ module _ (s : State) (m t u : Seen) (n : ℕ) (same : m.words ≡ s.words) (x y 
   left : u.words ≡ sealed_words s.profile s.words
   left = ap (λ z. z.words) works ∙ ap (sealed_words s.profile) (ap (λ z. z.words) checks ∙ same)
 
-  pub seal_effect : record { answer = Rotations n; after = with_words s u.words } ≡ sealing s
+  pub seal_effect : record { answer = Ok (Rotations n); after = with_words s u.words } ≡ sealing s
   seal_effect =
       let clean' : Ok y ≡ checked (seal_input_fault s.profile s.words) = clean ∙ ap (λ ws. checked (seal_input_fault s.profile ws)) same in
       let fine : seal_fault s ≡ None = all_clear (small s) s.out (seal_input_fault s.profile s.words) x y ready clean' in
-      (λ k. record { answer = Rotations (turns k); after = with_words s (left k) })
-      ∙ ap (λ f. grants f s (record { answer = Rotations s.profile.t; after = with_words s (sealed_words s.profile s.words) })) (sym fine)
+      (λ k. record { answer = Ok (Rotations (turns k)); after = with_words s (left k) })
+      ∙ ap (λ f. grants f s (record { answer = Ok (Rotations s.profile.t); after = with_words s (sealed_words s.profile s.words) })) (sym fine)
 
   pub seal_seen : u ≡ accessed m (seal_accesses s.profile 0) u.words
   seal_seen =

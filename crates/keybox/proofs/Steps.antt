@@ -2,8 +2,7 @@
 use Rattle.std.proofs.Common.{◌≡◌, List, [], ◌∷◌, ◌++◌, sym, ap, ◌∙◌, append_assoc}
 use Rattle.memory.specs.Access.{Seen, accessed}
 use Rattle.keybox.specs.declared.call.Call.{Call}
-use Rattle.keybox.specs.declared.call.Answer.{Answer}
-use Rattle.keybox.specs.Model.{State, Outcome, next}
+use Rattle.keybox.specs.Model.{State, Answer, Outcome, next}
 use Rattle.keybox.specs.Accesses.{public, shape, verdict, accesses}
 use Rattle.keybox.specs.Runs.{answers, after, seen_after}
 

@@ -1,6 +1,6 @@
 -- The accesses that each call makes, worked out from public numbers, the call without its words, and its verdict.
 -- The promise that nothing secret shows in a trail is stated of these very lists.
-use Rattle.std.specs.Prelude.{ℕ, zero, suc, ◌+◌, ◌-◌, Bool, cond, ◌||◌, List, [], ◌∷◌, ◌++◌, length, ◌==◌, nat_lt}
+use Rattle.std.specs.Prelude.{ℕ, zero, suc, ◌+◌, ◌-◌, Bool, cond, ◌||◌, List, [], ◌∷◌, ◌++◌, length, Ok, Err, ◌==◌, nat_lt}
 use Rattle.memory.specs.Access.{Access, get, put}
 use Rattle.rows.specs.declared.plan.Direction.TheVariants.{Up}
 use Rattle.rows.specs.declared.plan.Source.TheVariants.{Either}
@@ -10,10 +10,8 @@ use Rattle.rows.specs.Sum.{sum_accesses}
 use Rattle.scheme.specs.declared.profile.Profile.{Profile}
 use Rattle.keybox.specs.declared.call.Call.{Call}
 use Rattle.keybox.specs.declared.call.Call.TheVariants.{Give, Take, Seal, Wipe}
-use Rattle.keybox.specs.declared.call.Answer.{Answer}
-use Rattle.keybox.specs.declared.call.Answer.TheVariants.{Done, Word, Rotations, Refused}
 use Rattle.scheme.specs.Faults.{number}
-use Rattle.keybox.specs.Model.{State}
+use Rattle.keybox.specs.Model.{State, Answer}
 use Rattle.scheme.specs.Zones.{W, B, in_size, out_at, work_at, work_size, work_row, N}
 
 -- what boxes share that differ at most in the words of their memories
@@ -42,10 +40,8 @@ shape Wipe = wipes
 
 -- 0 for a grant, else the number of the refusal
 abbrev pub verdict : Answer → ℕ
-verdict Done = 0
-verdict (Word w) = 0
-verdict (Rotations n) = 0
-verdict (Refused f) = number f
+verdict (Ok g) = 0
+verdict (Err f) = number f
 
 -- each of n words from a place on is read once, in order
 unfoldable pub read_accesses : ℕ → ℕ → List Access

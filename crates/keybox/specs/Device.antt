@@ -8,10 +8,10 @@ use Rattle.scheme.specs.declared.fault.InputFault.{InputFault}
 use Rattle.scheme.specs.declared.fault.BoxFault.{BoxFault}
 use Rattle.scheme.specs.Faults.{input_told}
 use Rattle.keybox.specs.declared.call.Call.{Call}
-use Rattle.keybox.specs.declared.call.Answer.{Answer}
-use Rattle.keybox.specs.declared.call.Answer.TheVariants.{Done, Word, Rotations, Refused}
+use Rattle.keybox.specs.declared.call.Grant.{Grant}
+use Rattle.keybox.specs.declared.call.Grant.TheVariants.{Done, Word, Rotations}
 use Rattle.scheme.specs.Zones.{N}
-use Rattle.keybox.specs.Model.{State, Outcome}
+use Rattle.keybox.specs.Model.{State, Answer, Outcome}
 use Rattle.keybox.specs.Runs.{answers as answers_of, after, seen_after}
 use Rattle.keybox.specs.Accesses.{public, Shape, verdict, accesses}
 
@@ -19,17 +19,18 @@ abbrev pub state : {X : Type 0} → Ghosts X → KeyBox X → State
 state g b = record { profile = b.profile; number = b.unit; loaded = b.loaded; out = b.out; words = (g.seen b.memory).words }
 
 -- the results of the methods as answers
+abbrev pub given : {X : Type 0} → (X → Grant) → Result X BoxFault → Answer
+given g (Ok x) = Ok (g x)
+given g (Err f) = Err f
+
 abbrev pub done : {X : Type 0} → Result X BoxFault → Answer
-done (Ok x) = Done
-done (Err f) = Refused f
+done = given (λ _. Done)
 
 abbrev pub word : Result ℕ BoxFault → Answer
-word (Ok w) = Word w
-word (Err f) = Refused f
+word = given Word
 
 abbrev pub rotation_count : Result ℕ BoxFault → Answer
-rotation_count (Ok n) = Rotations n
-rotation_count (Err f) = Refused f
+rotation_count = given Rotations
 
 -- the result of the checks of a call
 abbrev pub granted : Option BoxFault → Result (Unit {0}) BoxFault

@@ -1,15 +1,14 @@
 -- A box that is driven by a list of calls, each made only where the one before it was granted.
-use Rattle.std.specs.Prelude.{ℕ, ◌+◌, cond, List, [], ◌∷◌, ◌++◌, length, take, drop, ◌==◌}
+use Rattle.std.specs.Prelude.{ℕ, ◌+◌, cond, List, [], ◌∷◌, ◌++◌, length, take, drop, Ok, ◌==◌}
 use Rattle.memory.specs.Access.{Seen, accessed}
 use Rattle.memory.specs.declared.Memory.{Ghosts}
 use Rattle.keybox.specs.declared.device.KeyBox.{KeyBox}
 use Rattle.scheme.specs.declared.profile.Profile.{Profile}
 use Rattle.keybox.specs.declared.call.Call.{Call}
 use Rattle.keybox.specs.declared.call.Call.TheVariants.{Give, Seal}
-use Rattle.keybox.specs.declared.call.Answer.{Answer}
-use Rattle.keybox.specs.declared.call.Answer.TheVariants.{Done}
+use Rattle.keybox.specs.declared.call.Grant.TheVariants.{Done}
 use Rattle.scheme.specs.Zones.{B}
-use Rattle.keybox.specs.Model.{State, opened, next}
+use Rattle.keybox.specs.Model.{State, Answer, opened, next}
 use Rattle.keybox.specs.Device.{state}
 use Rattle.keybox.specs.Accesses.{public, shape, verdict, accesses, open_accesses}
 
@@ -35,7 +34,7 @@ drive t (c ∷ cs) = cond (verdict t.answer == 0) (drive (called t c) cs) t
 -- a box newly opened over a memory
 abbrev pub newly_opened : Profile → ℕ → Seen → Driven
 newly_opened p u m = let s = opened p u m.words in
-    record { answer = Done; box = s; memory = accessed m (open_accesses p (length m.words)) s.words }
+    record { answer = Ok Done; box = s; memory = accessed m (open_accesses p (length m.words)) s.words }
 
 -- lent words as a memory: the first 65,536 are reached, and nothing is kept of the accesses
 abbrev pub lent_words : List ℕ → Seen

@@ -1,5 +1,5 @@
 -- What each call of a box answers, and the box that it leaves: every word of the memory is named, on grant and on refusal.
-use Rattle.std.specs.Prelude.{ℕ, zero, suc, ◌+◌, ◌-◌, ◌*◌, Bool, true, false, cond, ◌||◌, ltb, leb, List, [], ◌∷◌, ◌++◌, map, length, replicate, Some, None, Option, ◌==◌, nat_le, nat_lt, slice_index, slice_set}
+use Rattle.std.specs.Prelude.{ℕ, zero, suc, ◌+◌, ◌-◌, ◌*◌, Bool, true, false, cond, ◌||◌, ltb, leb, List, [], ◌∷◌, ◌++◌, map, length, replicate, Some, None, Ok, Err, Option, Result, ◌==◌, nat_le, nat_lt, slice_index, slice_set}
 use Rattle.std.specs.List.{range_with_len}
 use Rattle.std.specs.Option.{option_map}
 use Rattle.memory.specs.Words.{over, zeros}
@@ -13,8 +13,8 @@ use Rattle.scheme.specs.declared.fault.BoxFault.{BoxFault}
 use Rattle.scheme.specs.declared.fault.BoxFault.TheVariants.{MemorySmall, OutsideZone, SlipOut, Input}
 use Rattle.keybox.specs.declared.call.Call.{Call}
 use Rattle.keybox.specs.declared.call.Call.TheVariants.{Give, Take, Seal, Wipe}
-use Rattle.keybox.specs.declared.call.Answer.{Answer}
-use Rattle.keybox.specs.declared.call.Answer.TheVariants.{Done, Word, Rotations, Refused}
+use Rattle.keybox.specs.declared.call.Grant.{Grant}
+use Rattle.keybox.specs.declared.call.Grant.TheVariants.{Done, Word, Rotations}
 use Rattle.scheme.specs.Zones.{W, B, in_size, out_at, out_size, work_at, work_size, N}
 
 -- a box: its profile, its unit number, whether a key is loaded, whether a slip is out, and the words of its memory
@@ -24,6 +24,10 @@ pub record State : Type 0 where
   pub loaded : Bool
   pub out : Bool
   pub words : List ℕ
+
+-- a call is granted, or refused by a fault
+abbrev pub Answer : Type 0
+Answer = Result Grant BoxFault
 
 -- what a call answers, and the box that it leaves
 pub record Outcome : Type 0 where
@@ -58,7 +62,7 @@ again xs i = earlier xs (slice_index xs i) i
 -- a call that is refused leaves the box as it was
 abbrev pub grants : Option BoxFault → State → Outcome → Outcome
 grants None s o = o
-grants (Some f) s o = record { answer = Refused f; after = s }
+grants (Some f) s o = record { answer = Err f; after = s }
 
 -- the words with WORK zero: how every call that works there leaves it. In a box that was opened and called it is zero before, too
 abbrev pub rested : Profile → List ℕ → List ℕ
@@ -87,11 +91,11 @@ place_fault s n i = first (when (small s) MemorySmall ∷ when (nat_le n i) (Out
 
 abbrev pub giving : State → ℕ → ℕ → Outcome
 giving s i w = grants (place_fault s (in_size s.profile) i) s
-    (record { answer = Done; after = with_words s (slice_set s.words i w) })
+    (record { answer = Ok Done; after = with_words s (slice_set s.words i w) })
 
 abbrev pub taking : State → ℕ → Outcome
 taking s i = grants (place_fault s (out_size s.profile) i) s
-    (record { answer = Word (slice_index s.words (out_at s.profile + i)); after = s })
+    (record { answer = Ok (Word (slice_index s.words (out_at s.profile + i))); after = s })
 
 -- the positions of an error row of 2r bits that lie in its first half, and those of its second half, as bits of that half
 abbrev pub left_half : ℕ → List ℕ → List ℕ
@@ -129,14 +133,14 @@ abbrev pub sealed_words : Profile → List ℕ → List ℕ
 sealed_words p ws = rested p (published p (words_of p.r (public_syndrome p.r (part ws 0 p.t) (row_at ws (B p)))) ws)
 
 abbrev pub sealing : State → Outcome
-sealing s = grants (seal_fault s) s (record { answer = Rotations s.profile.t; after = with_words s (sealed_words s.profile s.words) })
+sealing s = grants (seal_fault s) s (record { answer = Ok (Rotations s.profile.t); after = with_words s (sealed_words s.profile s.words) })
 
 abbrev pub wipe_fault : State → Option BoxFault
 wipe_fault s = first (when (small s) MemorySmall ∷ when s.out SlipOut ∷ [])
 
 abbrev pub wiping : State → Outcome
 wiping s = grants (wipe_fault s) s
-    (record { answer = Done; after = record { profile = s.profile; number = s.number; loaded = false; out = s.out; words = zeros s.words 0 (N s.profile) } })
+    (record { answer = Ok Done; after = record { profile = s.profile; number = s.number; loaded = false; out = s.out; words = zeros s.words 0 (N s.profile) } })
 
 abbrev pub next : State → Call → Outcome
 next s (Give i w) = giving s i w

@@ -1,12 +1,11 @@
 -- Whole runs of a box: what a list of calls answers and leaves, and what no run may show.
-use Rattle.std.specs.Prelude.{◌≡◌, ℕ, ◌≤◌, List, [], ◌∷◌, map, length, take, drop, replicate, ◌≢◌}
+use Rattle.std.specs.Prelude.{◌≡◌, ℕ, ◌≤◌, List, [], ◌∷◌, map, length, take, drop, replicate, Ok, Err, ◌≢◌}
 use Rattle.memory.specs.Access.{Rule, Seen, traced}
 use Rattle.scheme.specs.declared.profile.Profile.{Profile}
 use Rattle.keybox.specs.declared.call.Call.{Call}
 use Rattle.keybox.specs.declared.call.Call.TheVariants.{Wipe}
-use Rattle.keybox.specs.declared.call.Answer.{Answer}
-use Rattle.keybox.specs.declared.call.Answer.TheVariants.{Done, Word, Rotations, Refused}
-use Rattle.keybox.specs.Model.{State, opened, next}
+use Rattle.keybox.specs.declared.call.Grant.TheVariants.{Done, Word, Rotations}
+use Rattle.keybox.specs.Model.{State, Answer, opened, next}
 use Rattle.scheme.specs.Zones.{work_at, work_size, N}
 use Rattle.keybox.specs.Accesses.{public, shape, verdict, accesses}
 
@@ -21,10 +20,10 @@ after s (c ∷ cs) = after (next s c).after cs
 
 -- the rotations that a granted call answers, and 0 else
 abbrev pub rotations : Answer → ℕ
-rotations Done = 0
-rotations (Word w) = 0
-rotations (Rotations n) = n
-rotations (Refused f) = 0
+rotations (Ok Done) = 0
+rotations (Ok (Word w)) = 0
+rotations (Ok (Rotations n)) = n
+rotations (Err f) = 0
 
 -- the trail after a list of calls
 abbrev pub trail_after : Rule → List ℕ → State → List Call → List ℕ

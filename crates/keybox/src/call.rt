@@ -8,9 +8,12 @@ pub enum Call {
     Wipe,
 }
 
-pub enum Answer {
+// What a granted call gives back: nothing, a word, or how many rotations were made.
+#[derive(Clone, Copy, Debug, PartialEq, Eq)]
+pub enum Grant {
     Done,
     Word(u32),
     Rotations(u32),
-    Refused(BoxFault),
 }
+
+pub type Answer = Result<Grant, BoxFault>;

@@ -1,8 +1,8 @@
 // A box over a memory that its caller lends and knows afterwards: opened, driven and let go in one function.
 // Each call waits for the grant of the one before it; the first refusal is the answer.
 
-ghost use Rattle.std.specs.Prelude.{◌≡◌, take, drop};
-ghost use Rattle.keybox.specs.declared.call.Answer.TheVariants.{Done};
+ghost use Rattle.std.specs.Prelude.{◌≡◌, take, drop, Ok};
+ghost use Rattle.keybox.specs.declared.call.Grant.TheVariants.{Done};
 ghost use Rattle.keybox.specs.Device.{done, rotation_count};
 ghost use Rattle.keybox.specs.Lent.{driven, drive, newly_opened, lent_words, gives_from, seal_calls};
 
@@ -14,12 +14,10 @@ use scheme::profile::Profile;
 
 // Gives words to the places of IN from `at` on.
 fn give_all<M: Memory>(keybox: &mut KeyBox<M>, at: u32, words: &[u32]) -> Result<(), BoxFault>
-    ensures { driven M.Memory keybox.new (done result) ≡ drive (driven M.Memory keybox.old Done) (gives_from at words.now) }
+    ensures { driven M.Memory keybox.new (done result) ≡ drive (driven M.Memory keybox.old (Ok Done)) (gives_from at words.now) }
 {
-    let mut place = at;
-    for word in words {
-        keybox.give(place, *word)?;
-        place += 1;
+    for (i, word) in words.iter().enumerate() {
+        keybox.give(at + i as u32, *word)?;
     }
     Ok(())
 }
@@ -30,7 +28,7 @@ fn give_and_seal<M: Memory>(
     positions: &[u32],
     row: &[u32],
 ) -> Result<u32, BoxFault>
-    ensures { driven M.Memory keybox.new (rotation_count result) ≡ drive (driven M.Memory keybox.old Done) (seal_calls keybox.old.profile positions.now row.now) }
+    ensures { driven M.Memory keybox.new (rotation_count result) ≡ drive (driven M.Memory keybox.old (Ok Done)) (seal_calls keybox.old.profile positions.now row.now) }
 {
     let row_place = keybox.profile.row_place();
     give_all(keybox, 0, positions)?;

@@ -7,12 +7,11 @@ ghost use Rattle.keybox.specs.Model.{next};
 ghost use Rattle.keybox.specs.Accesses.{shape};
 ghost use Rattle.keybox.specs.Runs.{Hides};
 ghost use Rattle.keybox.specs.Lasting.{Lasts};
-ghost use Rattle.keybox.specs.Device.{state, done as done_answer, word as word_answer, rotation_count, Does, Ran};
+ghost use Rattle.keybox.specs.Device.{state, Does, Ran};
 
-use crate::call::{Answer, Call};
+use crate::call::{Answer, Call, Grant};
 use crate::device::KeyBox;
 use memory::Memory;
-use scheme::fault::BoxFault;
 use std::collections::VecDeque;
 
 impl<M: Memory> KeyBox<M> {
@@ -20,10 +19,10 @@ impl<M: Memory> KeyBox<M> {
         ensures { Does M.Memory self.old self.new (shape call) result (next (state M.Memory self.old) call) }
     {
         match call {
-            Call::Give(place, word) => done(self.give(place, word)),
-            Call::Take(place) => word(self.take(place)),
-            Call::Seal => rotations(self.seal()),
-            Call::Wipe => done(self.wipe()),
+            Call::Give(place, word) => self.give(place, word).map(|()| Grant::Done),
+            Call::Take(place) => self.take(place).map(Grant::Word),
+            Call::Seal => self.seal().map(Grant::Rotations),
+            Call::Wipe => self.wipe().map(|()| Grant::Done),
         }
     }
 
@@ -48,33 +47,5 @@ impl<M: Memory> KeyBox<M> {
         }
         calls.destroy_empty();
         Ok(answers)
-    }
-}
-
-// The answer of a call that gives nothing back.
-fn done(res: Result<(), BoxFault>) -> Answer
-    ensures { result ≡ done_answer res }
-{
-    match res {
-        Ok(()) => Answer::Done,
-        Err(fault) => Answer::Refused(fault),
-    }
-}
-
-fn word(res: Result<u32, BoxFault>) -> Answer
-    ensures { result ≡ word_answer res }
-{
-    match res {
-        Ok(word) => Answer::Word(word),
-        Err(fault) => Answer::Refused(fault),
-    }
-}
-
-fn rotations(res: Result<u32, BoxFault>) -> Answer
-    ensures { result ≡ rotation_count res }
-{
-    match res {
-        Ok(count) => Answer::Rotations(count),
-        Err(fault) => Answer::Refused(fault),
     }
 }
