@@ -3,8 +3,9 @@ use Rattle.std.specs.Prelude.{ℕ, zero, suc, ◌+◌, ◌*◌, ◌/◌, ◌%◌
 use Rattle.scheme.specs.declared.fault.Layer.{Layer}
 use Rattle.scheme.specs.declared.fault.Layer.TheVariants.{Profile, Input, Box, Line}
 use Rattle.scheme.specs.Faults.{Told}
-use Rattle.script.specs.declared.grant.Grant.{Grant}
-use Rattle.script.specs.declared.grant.Grant.TheVariants.{Done, Word, Rotations, Heard}
+use Rattle.keybox.specs.declared.call.Grant.TheVariants.{Done, Word, Rotations}
+use Rattle.script.specs.declared.grant.LineGrant.{LineGrant}
+use Rattle.script.specs.declared.grant.LineGrant.TheVariants.{Call, Heard}
 use Rattle.script.specs.declared.fault.LineFault.{LineFault}
 use Rattle.script.specs.declared.reply.Reply.{Reply}
 use Rattle.script.specs.Faults.{line_told}
@@ -26,10 +27,10 @@ abbrev pub spaced : List ℕ → List ℕ
 spaced xs = 32 ∷ xs
 
 -- what stands behind ok
-abbrev pub granted : Grant → List ℕ
-granted Done = []
-granted (Word w) = spaced (hexadecimal 8 w)
-granted (Rotations n) = spaced (decimal n)
+abbrev pub granted : LineGrant → List ℕ
+granted (Call Done) = []
+granted (Call (Word w)) = spaced (hexadecimal 8 w)
+granted (Call (Rotations n)) = spaced (decimal n)
 granted (Heard n) = spaced (decimal n)
 
 abbrev pub name : Layer → List ℕ
@@ -43,6 +44,6 @@ abbrev pub refused : Told → ℕ → List ℕ
 refused t n = codes "no" ++ spaced (decimal t.number) ++ spaced (name t.layer) ++ spaced (decimal t.place) ++ spaced (decimal n)
 
 -- what is printed for the line numbered n, with its line feed
-abbrev pub printed : ℕ → Result Grant LineFault → List ℕ
+abbrev pub printed : ℕ → Result LineGrant LineFault → List ℕ
 printed n (Ok g) = codes "ok" ++ granted g ++ 10 ∷ []
 printed n (Err f) = refused (line_told f) n ++ 10 ∷ []

@@ -7,13 +7,12 @@ use Rattle.scheme.specs.declared.profile.Profile.{Profile}
 use Rattle.keybox.specs.declared.device.KeyBox.{KeyBox}
 use Rattle.scheme.specs.declared.fault.ProfileFault.{ProfileFault}
 use Rattle.scheme.specs.declared.fault.BoxFault.{BoxFault}
-use Rattle.keybox.specs.declared.call.Answer.{Answer}
-use Rattle.keybox.specs.declared.call.Answer.TheVariants as answers
-use Rattle.keybox.specs.Model.{State, opened, next}
+use Rattle.keybox.specs.declared.call.Grant.TheVariants.{Done}
+use Rattle.keybox.specs.Model.{State, Answer, opened, next}
 use Rattle.keybox.specs.Accesses.{public, shape, verdict, accesses, open_accesses}
 use Rattle.keybox.specs.Device.{state}
-use Rattle.script.specs.declared.grant.Grant.{Grant}
-use Rattle.script.specs.declared.grant.Grant.TheVariants.{Done, Word, Rotations, Heard}
+use Rattle.script.specs.declared.grant.LineGrant.{LineGrant}
+use Rattle.script.specs.declared.grant.LineGrant.TheVariants.{Call as of_call, Heard}
 use Rattle.script.specs.declared.fault.LineFault.{LineFault}
 use Rattle.script.specs.declared.fault.LineFault.TheVariants.{Malformed, NoProfile, Profile as of_profile, Box as of_box}
 use Rattle.script.specs.declared.desk.Desk as code
@@ -43,7 +42,7 @@ waiting m = record { memory = Some m; device = None }
 
 -- what a line is answered, and the desk afterwards
 pub record Worked : Type 0 where
-  pub answer : Result Grant LineFault
+  pub answer : Result LineGrant LineFault
   pub after : Desk
 
 abbrev pub refuses : LineFault → Desk → Worked
@@ -53,7 +52,7 @@ refuses f d = record { answer = Err f; after = d }
 abbrev pub opens : Profile → Desk → Option Seen → Worked
 opens p d None = refuses Malformed d
 opens p d (Some m) = record {
-  answer = Ok Done;
+  answer = Ok (of_call Done);
   after = record {
     memory = None;
     device = Some (record { box = opened p 1 m.words; seen = accessed m (open_accesses p (length m.words)) (opened p 1 m.words).words });
@@ -66,19 +65,17 @@ sets desk (Err f) = refuses (of_profile f) desk
 sets desk (Ok p) = opens p desk desk.memory
 
 -- what a box answers, as a line is told; a refusal is passed on
-abbrev pub grant_of : Answer → Result Grant BoxFault
-grant_of answers.Done = Ok Done
-grant_of (answers.Word w) = Ok (Word w)
-grant_of (answers.Rotations n) = Ok (Rotations n)
-grant_of (answers.Refused f) = Err f
+abbrev pub grant_of : Answer → Result LineGrant BoxFault
+grant_of (Ok g) = Ok (of_call g)
+grant_of (Err f) = Err f
 
-abbrev pub passed_on : Result Grant BoxFault → Result Grant LineFault
+abbrev pub passed_on : Result LineGrant BoxFault → Result LineGrant LineFault
 passed_on (Ok g) = Ok g
 passed_on (Err f) = Err (of_box f)
 
 -- what an open box answers, and the box afterwards
 pub record Obeyed : Type 0 where
-  pub answer : Result Grant BoxFault
+  pub answer : Result LineGrant BoxFault
   pub after : Device
 
 -- a call makes its accesses, and to hear is none

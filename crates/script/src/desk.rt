@@ -6,11 +6,11 @@ ghost use Rattle.script.specs.Chosen.{profile_from};
 ghost use Rattle.lines.specs.Commands.{listed, request, ordered};
 ghost use Rattle.lines.specs.declared.command.Command.TheVariants.{Set};
 ghost use Rattle.lines.specs.Feeding.{line_of};
-ghost use Rattle.script.specs.Sessions.{device_of, desk_of, waiting, grant_of, obeys, serves, works, works_off};
+ghost use Rattle.script.specs.Sessions.{device_of, desk_of, waiting, obeys, serves, works, works_off};
 
 use crate::fault::LineFault;
-use crate::grant::Grant;
-use keybox::call::{Answer, Call};
+use crate::grant::LineGrant;
+use keybox::call::{Call, Grant};
 use keybox::device::KeyBox;
 use lines::command::{Command, Order, Setting};
 use lines::line::Line;
@@ -21,6 +21,7 @@ use scheme::profile::Profile;
 
 const UNIT: u32 = 1;
 
+// Two options and no enum: the memory leaves a lent desk only if a value stays in its place, and the None that `take` leaves is one.
 #[derive(Drop)]
 pub struct Desk<M: Memory> {
     memory: Option<M>,
@@ -36,30 +37,18 @@ fn profile(setting: &Setting) -> Result<Profile, ProfileFault>
     Ok(profile)
 }
 
-// What a box answers, as a line is told.
-fn granted(answer: Answer) -> Result<Grant, BoxFault>
-    ensures { result ≡ grant_of answer }
-{
-    match answer {
-        Answer::Done => Ok(Grant::Done),
-        Answer::Word(word) => Ok(Grant::Word(word)),
-        Answer::Rotations(count) => Ok(Grant::Rotations(count)),
-        Answer::Refused(fault) => Err(fault),
-    }
-}
-
 // Does on a box what it is told.
-fn obey<M: HeardMemory>(device: &mut KeyBox<M>, order: Order) -> Result<Grant, BoxFault>
+fn obey<M: HeardMemory>(device: &mut KeyBox<M>, order: Order) -> Result<LineGrant, BoxFault>
     ensures { record { answer = result; after = device_of M.Memory device.new } ≡ obeys M.HeardMemory.told (device_of M.Memory device.old) (ordered order) }
 {
-    let answer = match order {
-        Order::Give(place, word) => device.call(Call::Give(place, word)),
-        Order::Take(place) => device.call(Call::Take(place)),
-        Order::Seal => device.call(Call::Seal),
-        Order::Wipe => device.call(Call::Wipe),
-        Order::Hear => return Ok(Grant::Heard(device.hear())),
+    let call = match order {
+        Order::Give(place, word) => Call::Give(place, word),
+        Order::Take(place) => Call::Take(place),
+        Order::Seal => Call::Seal,
+        Order::Wipe => Call::Wipe,
+        Order::Hear => return Ok(LineGrant::Heard(device.hear())),
     };
-    granted(answer)
+    Ok(LineGrant::Call(device.call(call)?))
 }
 
 impl<M: HeardMemory + Drop> Desk<M> {
@@ -73,28 +62,24 @@ impl<M: HeardMemory + Drop> Desk<M> {
     }
 
     // Opens a box with a profile of the numbers given.
-    fn open(&mut self, setting: Setting) -> Result<Grant, LineFault>
+    fn open(&mut self, setting: Setting) -> Result<LineGrant, LineFault>
         ensures { record { answer = result; after = desk_of M.Memory self.new } ≡ works_off M.HeardMemory.told (desk_of M.Memory self.old) (Some (request (Set setting))) }
     {
         let profile = profile(&setting)?;
-        let Some(memory) = self.memory.take() else {
-            return Err(LineFault::Malformed);
-        };
+        let memory = self.memory.take().ok_or(LineFault::Malformed)?;
         self.device = Some(KeyBox::open(profile, UNIT, memory));
-        Ok(Grant::Done)
+        Ok(LineGrant::Call(Grant::Done))
     }
 
-    fn serve(&mut self, order: Order) -> Result<Grant, LineFault>
+    fn serve(&mut self, order: Order) -> Result<LineGrant, LineFault>
         ensures { record { answer = result; after = desk_of M.Memory self.new } ≡ serves M.HeardMemory.told (desk_of M.Memory self.old) (ordered order) (desk_of M.Memory self.old).device }
     {
-        let Some(device) = &mut self.device else {
-            return Err(LineFault::NoProfile);
-        };
+        let device = self.device.as_mut().ok_or(LineFault::NoProfile)?;
         Ok(obey(device, order)?)
     }
 
     // Works a line off.
-    pub fn work(&mut self, line: &Line) -> Result<Grant, LineFault>
+    pub fn work(&mut self, line: &Line) -> Result<LineGrant, LineFault>
         ensures { record { answer = result; after = desk_of M.Memory self.new } ≡ works M.HeardMemory.told (desk_of M.Memory self.old) (line_of line.now) }
     {
         match parse(line.as_bytes(), line.number() == 1).ok_or(LineFault::Malformed)? {

@@ -1,9 +1,10 @@
-// What a line that is granted is told: nothing but that, a word, how many rotations were made, or the number heard.
+// What a line that is granted is told: what a call on the box gives, or the number heard.
+// It stands to the box's grant as the line's fault does to the box's.
 
-#[derive(Clone, Copy)]
-pub enum Grant {
-    Done,
-    Word(u32),
-    Rotations(u32),
+use keybox::call::Grant;
+
+#[derive(Clone, Copy, Debug, PartialEq, Eq)]
+pub enum LineGrant {
+    Call(Grant),
     Heard(u32),
 }

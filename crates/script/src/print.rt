@@ -6,8 +6,9 @@ ghost use Rattle.script.specs.Faults.{line_told};
 ghost use Rattle.script.specs.Printing.{said, spaced, glyph as glyph_of, hexadecimal, granted, name, refused, printed};
 
 use crate::fault::LineFault;
-use crate::grant::Grant;
+use crate::grant::LineGrant;
 use crate::reply::Reply;
+use keybox::call::Grant;
 use scheme::fault::Layer;
 
 fn glyph(digit: u32) -> u8
@@ -80,17 +81,16 @@ impl Reply {
         }
     }
 
-    fn grant(&mut self, grant: Grant)
+    fn grant(&mut self, grant: LineGrant)
         requires { self.old.len ≡ 0 }
         ensures bytes { said self.new ≡ codes "ok" ++ granted grant }
         ensures len { self.new.len < 44 }
     {
         self.text(b"ok");
         match grant {
-            Grant::Done => {}
-            Grant::Word(w) => self.word(w),
-            Grant::Rotations(n) => self.number(n),
-            Grant::Heard(n) => self.number(n),
+            LineGrant::Call(Grant::Done) => {}
+            LineGrant::Call(Grant::Word(w)) => self.word(w),
+            LineGrant::Call(Grant::Rotations(n)) | LineGrant::Heard(n) => self.number(n),
         }
     }
 
@@ -108,7 +108,7 @@ impl Reply {
 }
 
 // What is printed for the line of that number.
-pub fn print(line: u32, answer: Result<Grant, LineFault>) -> Reply
+pub fn print(line: u32, answer: Result<LineGrant, LineFault>) -> Reply
     ensures { said result ≡ printed line answer }
 {
     let mut reply = Reply::empty();
