@@ -6,7 +6,6 @@ pub mod Refusals
 pub mod Resting
 pub mod Forgotten
 pub mod Lasts
-pub mod Steps
 pub mod Driving
 pub mod Loans
 pub mod Marking

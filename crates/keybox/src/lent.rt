@@ -23,6 +23,7 @@ fn give_all<M: Memory>(keybox: &mut KeyBox<M>, at: u32, words: &[u32]) -> Result
 }
 
 // Gives the positions to place 0 onward and the row to its place in IN, and seals.
+#[tactic(auto, using(crate::proofs::Driving::drive_joined, crate::proofs::Driving::drive_stopped))]
 fn give_and_seal<M: Memory>(
     keybox: &mut KeyBox<M>,
     positions: &[u32],
