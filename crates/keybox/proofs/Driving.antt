@@ -1,8 +1,8 @@
 -- A box driven call by call: the calls that are left complete what all of them were to do.
 use Rattle.std.proofs.Common.{◌≡◌, ℕ, ◌+◌, ◌<◌, false, eqb, List, [], ◌∷◌, ◌++◌, length, get_or, drop, Ok, Err, sym, refl, ap, ◌∙◌, inl, inr, arith}
 use Rattle.std.proofs.lemmas.List.{at_drop_more}
-use Rattle.std.proofs.lemmas.Bool.{cases_Bool, cond-true, cond-false, ne_eqb}
-use Rattle.memory.specs.Access.{Seen, accessed}
+use Rattle.std.proofs.lemmas.Bool.{cases_Bool, cond-true, ne_eqb}
+use Rattle.memory.specs.Access.{Seen}
 use Rattle.memory.specs.declared.Memory.{Ghosts}
 use Rattle.keybox.specs.declared.device.KeyBox.{KeyBox}
 use Rattle.scheme.specs.declared.fault.BoxFault.{BoxFault}
@@ -10,16 +10,16 @@ use Rattle.keybox.specs.declared.call.Call.{Call}
 use Rattle.keybox.specs.declared.call.Call.TheVariants.{Give}
 use Rattle.keybox.specs.declared.call.Grant.TheVariants.{Done}
 use Rattle.scheme.specs.Faults.{number}
-use Rattle.keybox.specs.Model.{State, Answer, Outcome, giving, next}
-use Rattle.keybox.specs.Accesses.{public, shape, gives, verdict, accesses}
+use Rattle.keybox.specs.Model.{State, Answer, giving, next}
+use Rattle.keybox.specs.Accesses.{shape, gives, verdict}
 use Rattle.keybox.specs.Device.{state, Does}
 use Rattle.keybox.specs.Lent.{Driven, driven, called, drive, gives_from}
-use Rattle.keybox.proofs.Granted.{refusal_number}
+use Rattle.keybox.proofs.Refusals.{refusal_number}
 
 -- after a refusal no call is made
 drive_refused : (t : Driven) (cs : List Call) → eqb (verdict t.answer) 0 ≡ false → drive t cs ≡ t
 drive_refused t [] h = refl
-drive_refused t (c ∷ cs) h = cond-false _ (drive (called t c) cs) t h
+drive_refused t (c ∷ cs) h = grind arith
 
 pub drive_stopped : (f : BoxFault) (s : State) (m : Seen) (cs : List Call) → drive (record { answer = Err f; box = s; memory = m }) cs ≡ record { answer = Err f; box = s; memory = m }
 drive_stopped f s m cs = drive_refused (record { answer = Err f; box = s; memory = m }) cs (ne_eqb (number f) 0 (λ e. omega (arith, refusal_number f)))
@@ -37,10 +37,7 @@ drive_joined t (c ∷ cs) ds =
 -- a call that a box made
 pub called_is : {X : Type 0} (g : Ghosts X) (before now : KeyBox X) (c : Call) (x a : Answer) → Does g before now (shape c) a (next (state g before) c)
     → called (driven g before x) c ≡ driven g now a
-called_is g before now c x a did =
-    let s = state g before in let m = g.seen before.memory in
-    ap (λ (o : Outcome). record { answer = o.answer; box = o.after; memory = accessed m (accesses (public s) (shape c) (verdict o.answer)) o.after.words }) (sym did.effect)
-    ∙ ap (λ n. record { answer = a; box = state g now; memory = n }) (sym did.seen)
+called_is g before now c x a did = rw (← did.effect, ← did.seen) refl
 
 -- a word given that is refused is the last
 pub give_stops : {X : Type 0} (g : Ghosts X) (b b' : KeyBox X) (t : Driven) (place i : ℕ) (ws : List ℕ) (f : BoxFault)

@@ -1,5 +1,5 @@
 -- Nothing secret shows in a trail or in the rotations: both follow, call by call, from what alike boxes share.
-use Rattle.std.proofs.Common.{◌≡◌, ℕ, zero, suc, List, [], ◌∷◌, map, take, refl, ap, ◌∙◌, arith}
+use Rattle.std.proofs.Common.{◌≡◌, ℕ, zero, suc, List, [], ◌∷◌, length, map, take, refl, ap, ◌∙◌, arith}
 use Rattle.memory.specs.Access.{Rule, Access, traced}
 use Rattle.keybox.specs.declared.call.Call.{Call}
 use Rattle.keybox.specs.Model.{State, next}
@@ -48,8 +48,8 @@ same_tail x y xs ys e = cc
 pub hides : (s : State) (cs : List Call) → Hides s cs
 hides s cs rule trail t ds p h zero v = (refl, refl, p)
 hides s [] rule trail t [] p h (suc n) v = (refl, refl, p)
-hides s [] rule trail t (d ∷ ds) p h (suc n) v = let z : ◌≡◌ {A = ℕ} 0 1 = cc in absurd (omega arith)
-hides s (c ∷ cs) rule trail t [] p h (suc n) v = let z : ◌≡◌ {A = ℕ} 0 1 = cc in absurd (omega arith)
+hides s [] rule trail t (d ∷ ds) p h (suc n) v = absurd (omega (arith, ap length h))
+hides s (c ∷ cs) rule trail t [] p h (suc n) v = absurd (omega (arith, ap length h))
 hides s (c ∷ cs) rule trail t (d ∷ ds) p h (suc n) v =
     let same_shape = same_head (shape d) (shape c) _ _ h in
     let same_verdict = same_head (verdict (next t d).answer) (verdict (next s c).answer) _ _ v in

@@ -1,8 +1,7 @@
-pub mod Granted
+pub mod Refusals
 pub mod Parts
 pub mod Public
 pub mod Hiding
-pub mod Refusals
 pub mod Resting
 pub mod Forgotten
 pub mod Lasts

@@ -1,5 +1,5 @@
 -- A box over a lent memory does what a box over the memory itself would do: no call looks at what ties a loan to its lender.
-use Rattle.std.proofs.Common.{◌≡◌, ℕ, Bool, true, false, cond, eqb, List, [], ◌∷◌, length, get_or, take, drop, Ok, refl, ap, ◌∙◌}
+use Rattle.std.proofs.Common.{◌≡◌, ℕ, Bool, cond, eqb, List, [], ◌∷◌, length, take, drop, Ok, arith, refl, ap, ◌∙◌}
 use Rattle.std.proofs.lemmas.Bool.{cond_both}
 use Rattle.memory.specs.Access.{Seen, accessed}
 use Rattle.scheme.specs.declared.profile.Profile.{Profile}
@@ -18,14 +18,10 @@ driven_behind name t = record { answer = t.answer; box = t.box; memory = behind 
 
 -- one loan and one memory
 same_loan : (j k : ℕ) (m n : Seen) → behind j m ≡ behind k n → (j ≡ k) × (m ≡ n)
-same_loan j k m n e = (
-  ap (λ (u : Seen). get_or u.home 0 0) e,
-  λ i. record { words = (e i).words; trail = (e i).trail; rule = (e i).rule; outside = (e i).outside; home = drop 1 (e i).home },
-)
+same_loan j k m n e = (grind arith, grind arith)
 
 choose_behind : (name : ℕ) (b : Bool) (t u : Driven) → cond b (driven_behind name t) (driven_behind name u) ≡ driven_behind name (cond b t u)
-choose_behind name true t u = refl
-choose_behind name false t u = refl
+choose_behind name b t u = grind arith
 
 drive_behind : (name : ℕ) (t : Driven) (cs : List Call) → drive (driven_behind name t) cs ≡ driven_behind name (drive t cs)
 drive_behind name t [] = refl

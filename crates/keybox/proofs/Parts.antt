@@ -1,5 +1,5 @@
 -- Parts of a list of words. What is read in the first n words, and what is written there, does not depend on the words after them.
-use Rattle.std.proofs.Common.{◌≡◌, ℕ, zero, suc, ◌+◌, ◌-◌, ◌/◌, ◌%◌, ◌<◌, ◌≤◌, Bool, List, [], ◌∷◌, length, get_or, take, drop, set, replicate, sum_by, sym, refl, ap, ◌∙◌, mod-lt, arith, length-drop, length-take}
+use Rattle.std.proofs.Common.{◌≡◌, ℕ, zero, suc, ◌+◌, ◌-◌, ◌/◌, ◌%◌, ◌<◌, ◌≤◌, Bool, List, [], ◌∷◌, length, take, drop, set, replicate, sum_by, refl, ap, ◌∙◌, mod-lt, arith, length-drop, length-take}
 use mathlib.Core.Path.{fun_ext}
 use lib.ListN.{length-replicate}
 use Rattle.std.specs.List.{range_with_len}
@@ -14,11 +14,9 @@ use Rattle.keybox.specs.Model.{first_place}
 -- the words of a part that lies inside the zeros
 pub part_zeroed : (ws : List ℕ) (a n b m : ℕ) → b ≤ a → a + n ≤ b + m → a + n ≤ length ws → take n (drop a (zeros ws b m)) ≡ replicate n 0
 part_zeroed ws a n b m low high room =
-    let e : length (take n (drop a (zeros ws b m))) ≡ length (replicate {A = ℕ} n 0) = simp (length-take, length-drop, length_zeros, length-replicate) (omega arith) in
-    ext_get_or 0 (take n (drop a (zeros ws b m))) (replicate n 0) e (λ i l.
+    ext_get_or 0 _ _ (simp (length-take, length-drop, length_zeros, length-replicate) (omega arith)) (λ i l.
     let k : i < n = omega (arith, length-take n (drop a (zeros ws b m))) in
-    let at : a + i ≡ b + (a - b + i) = omega arith in
-    part_at (zeros ws b m) a n i k ∙ ap (λ j. get_or (zeros ws b m) j 0) at ∙ zeros_in ws b m (a - b + i) (omega arith) ∙ sym (get_or-replicate n i 0 0 k))
+    grind (arith, part_at (zeros ws b m) a n i k, zeros_in ws b m (a + i - b), get_or-replicate))
 
 -- a put
 take_set_in : (n : ℕ) (ws : List ℕ) (i w : ℕ) → take n (set ws i w) ≡ set (take n ws) i w
@@ -35,10 +33,9 @@ take_over n ws a (x ∷ xs) = take_over n (set ws a x) (a + 1) xs ∙ ap (λ t. 
 -- a part
 pub front_part : (n : ℕ) (ws : List ℕ) (a m : ℕ) → a + m ≤ n → part (take n ws) a m ≡ part ws a m
 front_part n ws a m h =
-    let e : length (part (take n ws) a m) ≡ length (part ws a m) = simp (length-take, length-drop, length-take) (omega arith) in
-    ext_get_or 0 (part (take n ws) a m) (part ws a m) e (λ i l.
+    ext_get_or 0 _ _ (simp (length-take, length-drop, length-take) (omega arith)) (λ i l.
     let k : i < m = omega (arith, length-take m (drop a (take n ws))) in
-    part_at (take n ws) a m i k ∙ get_or-take n ws (a + i) 0 (omega arith) ∙ sym (part_at ws a m i k))
+    grind (arith, part_at (take n ws) a m i k, part_at ws a m i k, get_or-take))
 
 -- a row
 pub front_row : (r n : ℕ) (ws : List ℕ) (a : ℕ) → a + width r ≤ n → Same r (row_at (take n ws) a) (row_at ws a)
@@ -57,6 +54,4 @@ product_same r ps x y l h = fun_ext (λ j. ap (λ (f : ℕ → Row). sum_by (λ 
 -- the first place where a test holds
 pub first_place_same : (p q : ℕ → Bool) (a n : ℕ) → ((i : ℕ) → i < a + n → p i ≡ q i) → first_place p (range_with_len a n) ≡ first_place q (range_with_len a n)
 first_place_same p q a zero h = refl
-first_place_same p q a (suc n) h =
-    let here : p a ≡ q a = h a (omega arith) in
-    let there = first_place_same p q (a + 1) n (λ i l. h i (omega arith)) in cc
+first_place_same p q a (suc n) h = grind (arith, h a (omega arith), first_place_same p q (a + 1) n (λ i l. h i (omega arith)))
