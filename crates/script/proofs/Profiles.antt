@@ -43,45 +43,11 @@ made n f = record {
   unused = f.unused;
 }
 
-one_r : (n : Numbers) → IsProp ((3 ≤ n.r) × (n.r ≤ 16000))
-one_r n = hlevel props
-
-one_d : (n : Numbers) → IsProp ((1 ≤ n.d) × (n.d ≤ 63) × (n.d ≤ n.r))
-one_d n = hlevel props
-
-one_t : (n : Numbers) → IsProp ((1 ≤ n.t) × (n.t ≤ 255) × (n.t ≤ 2 * n.r))
-one_t n = hlevel props
-
-one_k : (n : Numbers) → IsProp ((1 ≤ n.k) × (n.k ≤ 16))
-one_k n = hlevel props
-
-one_length : (n : Numbers) → IsProp (length n.thresholds ≡ 16)
-one_length n = hlevel props
-
-one_used : (n : Numbers) → IsProp ((i : ℕ) → i < n.k → (1 ≤ get_or n.thresholds i 0) × (get_or n.thresholds i 0 ≤ n.d))
-one_used n = hlevel props
-
-one_unused : (n : Numbers) → IsProp ((i : ℕ) → n.k ≤ i → get_or n.thresholds i 0 ≡ 0)
-one_unused n = hlevel props
-
-same_made : (n : Numbers) (f g : Facts n) → made n f ≡ made n g
-same_made n f g = λ i. record {
-  r = n.r;
-  d = n.d;
-  t = n.t;
-  k = n.k;
-  thresholds = n.thresholds;
-  r_range = one_r n f.r_range g.r_range i;
-  d_range = one_d n f.d_range g.d_range i;
-  t_range = one_t n f.t_range g.t_range i;
-  k_range = one_k n f.k_range g.k_range i;
-  entries = one_length n f.entries g.entries i;
-  used = one_used n f.used g.used i;
-  unused = one_unused n f.unused g.unused i;
-}
+one_way : (n : Numbers) → IsProp (Facts n)
+one_way n = hlevel props
 
 pub same_profile : (p q : Profile) → numbers p ≡ numbers q → p ≡ q
-same_profile p q e = subst (λ n. (g : Facts n) → made (numbers p) (facts p) ≡ made n g) e (same_made (numbers p) (facts p)) (facts q)
+same_profile p q e = subst (λ n. (g : Facts n) → made (numbers p) (facts p) ≡ made n g) e (λ g. ap (made (numbers p)) (one_way (numbers p) (facts p) g)) (facts q)
 
 granted : (r d t : ℕ) (ts : List ℕ) (b : Bool) (e : lawful r d t ts ≡ b) → b ≡ true → (p : Profile) → numbers p ≡ chosen_numbers r d t ts
     → Ok p ≡ if_lawful r d t ts b e
