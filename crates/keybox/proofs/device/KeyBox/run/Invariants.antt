@@ -15,7 +15,7 @@ invariant-loop-call g l =
       left : after s0 cs0 ≡ after s cs;
       seen : seen_after (g.M.Memory.seen l.initial.self.memory) s0 cs0 ≡ seen_after (g.M.Memory.seen l.self.memory) s cs;
       room : vec_len l.answers + deque_len l.calls ≤ vec_capacity l.answers;
-      room_for_all : vec_len l.initial.answers + deque_len l.initial.calls ≤ vec_capacity l.initial.answers
+      room_for_all : vec_len l.initial.answers + deque_len l.initial.calls ≤ vec_capacity l.initial.answers;
     }
 
 abbrev pub decreases-loop-call : goal.decreases-loop-call
