@@ -3,7 +3,7 @@
 
 #![tactic(auto)]
 
-use keybox::lent::seal_words;
+use keybox::lent::{SealInput, seal_words};
 use scheme::profile::Profile;
 
 // Opens a box over `words` with one threshold, gives it the positions and the public row, and seals.
@@ -21,7 +21,7 @@ pub extern "C" fn sealed(
     if let Err(fault) = profile.set(r, d, t, &[1]) {
         return fault.number();
     }
-    match seal_words(words, profile, 1, positions, row) {
+    match seal_words(words, profile, 1, &SealInput { positions, row }) {
         Ok(_) => 0,
         Err(fault) => fault.number(),
     }

@@ -5,6 +5,7 @@ use Rattle.memory.specs.declared.Memory.{Ghosts}
 use Rattle.keybox.specs.declared.device.KeyBox.{KeyBox}
 use Rattle.scheme.specs.declared.profile.Profile.{Profile}
 use Rattle.keybox.specs.declared.call.Call.{Call}
+use Rattle.keybox.specs.declared.lent.SealInput.{SealInput}
 use Rattle.keybox.specs.declared.call.Call.TheVariants.{Give, Seal}
 use Rattle.keybox.specs.declared.call.Grant.TheVariants.{Done}
 use Rattle.scheme.specs.Zones.{B}
@@ -45,6 +46,10 @@ abbrev pub gives_from : ℕ → List ℕ → List Call
 gives_from a [] = []
 gives_from a (w ∷ ws) = Give a w ∷ gives_from (a + 1) ws
 
--- positions given to place 0 onward and a public row to its place, and then a seal
-abbrev pub seal_calls : Profile → List ℕ → List ℕ → List Call
-seal_calls p positions row = gives_from 0 positions ++ (gives_from (B p) row ++ (Seal ∷ []))
+-- the positions given to place 0 onward and the public row to its place, and then a seal
+abbrev pub seal_calls : Profile → SealInput → List Call
+seal_calls p input = gives_from 0 input.positions.now ++ (gives_from (B p) input.row.now ++ (Seal ∷ []))
+
+-- a box newly opened over a memory, given what a seal reads, and sealing
+abbrev pub sealed_over : Profile → ℕ → Seen → SealInput → Driven
+sealed_over p u m input = drive (newly_opened p u m) (seal_calls p input)

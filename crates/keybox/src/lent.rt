@@ -4,13 +4,20 @@
 ghost use Rattle.std.specs.Prelude.{◌≡◌, take, drop, Ok};
 ghost use Rattle.keybox.specs.declared.call.Grant.TheVariants.{Done};
 ghost use Rattle.keybox.specs.Device.{done, rotation_count};
-ghost use Rattle.keybox.specs.Lent.{driven, drive, newly_opened, lent_words, gives_from, seal_calls};
+ghost use Rattle.keybox.specs.Lent.{driven, drive, lent_words, gives_from, seal_calls, sealed_over};
 
 use crate::device::KeyBox;
 use memory::Memory;
 use memory::bare::Bare;
 use scheme::fault::BoxFault;
 use scheme::profile::Profile;
+
+// The words that a seal reads: the error positions and the public row.
+#[derive(Clone, Copy)]
+pub struct SealInput<'a> {
+    pub positions: &'a [u32],
+    pub row: &'a [u32],
+}
 
 // Gives words to the places of IN from `at` on.
 fn give_all<M: Memory>(keybox: &mut KeyBox<M>, at: u32, words: &[u32]) -> Result<(), BoxFault>
@@ -24,16 +31,12 @@ fn give_all<M: Memory>(keybox: &mut KeyBox<M>, at: u32, words: &[u32]) -> Result
 
 // Gives the positions to place 0 onward and the row to its place in IN, and seals.
 #[tactic(auto, using(crate::proofs::Driving::drive_joined, crate::proofs::Driving::drive_stopped))]
-fn give_and_seal<M: Memory>(
-    keybox: &mut KeyBox<M>,
-    positions: &[u32],
-    row: &[u32],
-) -> Result<u32, BoxFault>
-    ensures { driven M.Memory keybox.new (rotation_count result) ≡ drive (driven M.Memory keybox.old (Ok Done)) (seal_calls keybox.old.profile positions.now row.now) }
+fn give_and_seal<M: Memory>(keybox: &mut KeyBox<M>, input: &SealInput) -> Result<u32, BoxFault>
+    ensures { driven M.Memory keybox.new (rotation_count result) ≡ drive (driven M.Memory keybox.old (Ok Done)) (seal_calls keybox.old.profile input.now) }
 {
     let row_place = keybox.profile.row_place();
-    give_all(keybox, 0, positions)?;
-    give_all(keybox, row_place, row)?;
+    give_all(keybox, 0, input.positions)?;
+    give_all(keybox, row_place, input.row)?;
     keybox.seal()
 }
 
@@ -42,14 +45,13 @@ pub fn seal_over<M: Memory>(
     memory: &mut M,
     profile: Profile,
     unit: u32,
-    positions: &[u32],
-    row: &[u32],
+    input: &SealInput,
 ) -> Result<u32, BoxFault>
-    ensures result { rotation_count result ≡ (drive (newly_opened profile unit (M.Memory.seen memory.old)) (seal_calls profile positions.now row.now)).answer }
-    ensures seen { M.Memory.seen memory.new ≡ (drive (newly_opened profile unit (M.Memory.seen memory.old)) (seal_calls profile positions.now row.now)).memory }
+    ensures result { rotation_count result ≡ (sealed_over profile unit (M.Memory.seen memory.old) input.now).answer }
+    ensures seen { M.Memory.seen memory.new ≡ (sealed_over profile unit (M.Memory.seen memory.old) input.now).memory }
 {
     let mut keybox = KeyBox::open(profile, unit, memory);
-    give_and_seal(&mut keybox, positions, row)
+    give_and_seal(&mut keybox, input)
 }
 
 // The same over lent words: of a longer list the first 65,536 are the memory, and the rest stays as it was.
@@ -57,13 +59,12 @@ pub fn seal_words(
     words: &mut [u32],
     profile: Profile,
     unit: u32,
-    positions: &[u32],
-    row: &[u32],
+    input: &SealInput,
 ) -> Result<u32, BoxFault>
-    ensures result { rotation_count result ≡ (drive (newly_opened profile unit (lent_words words.old)) (seal_calls profile positions.now row.now)).answer }
-    ensures front { take 65536 words.new ≡ (drive (newly_opened profile unit (lent_words words.old)) (seal_calls profile positions.now row.now)).memory.words }
+    ensures result { rotation_count result ≡ (sealed_over profile unit (lent_words words.old) input.now).answer }
+    ensures front { take 65536 words.new ≡ (sealed_over profile unit (lent_words words.old) input.now).memory.words }
     ensures rest { drop 65536 words.new ≡ drop 65536 words.old }
 {
     let mut memory = Bare::over(words);
-    seal_over(&mut memory, profile, unit, positions, row)
+    seal_over(&mut memory, profile, unit, input)
 }

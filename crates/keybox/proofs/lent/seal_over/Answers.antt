@@ -7,5 +7,5 @@ use Rattle.keybox.proofs.lent.seal_over.Goals as goal
 pub returns : goal.returns
 returns g c =
     let o = c.open-keybox.ensures in
-    let ends = lent_end c.args.profile c.args.unit _ (g.M.Memory.seen c.args.memory.now) (λ p. seal_calls p c.args.positions.now c.args.row.now) _ _ (g.M.Memory.seen c.open-keybox.result.memory.now) o.state o.seen _ _ _ (g.M.Memory.seen c.give_and_seal.new.keybox.memory.now) c.give_and_seal.ensures in
+    let ends = lent_end c.args.profile c.args.unit _ (g.M.Memory.seen c.args.memory.now) (λ p. seal_calls p c.args.input.now) _ _ (g.M.Memory.seen c.open-keybox.result.memory.now) o.state o.seen _ _ _ (g.M.Memory.seen c.give_and_seal.new.keybox.memory.now) c.give_and_seal.ensures in
     record { result = ends.0; seen = search rules }

@@ -7,7 +7,7 @@ use Rattle.keybox.proofs.lent.seal_words.Goals as goal
 pub returns : goal.returns
 returns c =
     let p = c.args.profile in let u = c.args.unit in
-    let cs = seal_calls p c.args.positions.now c.args.row.now in
+    let cs = seal_calls p c.args.input.now in
     let before = c.over-memory.result.words in
     let same : before.now ≡ c.args.words.now = ap (λ x. x.now) c.over-memory.ensures in
     let ends = lent_words_end p u before.now cs c.seal_over.new.memory.words.ghost_name before.ghost_name c.seal_over.new.memory.words.now c.seal_over.ensures.seen in
