@@ -21,7 +21,7 @@ use scheme::profile::Profile;
 
 const UNIT: u32 = 1;
 
-// Two options and no enum: the memory leaves a lent desk only if a value stays in its place, and the None that `take` leaves is one.
+// Two options and no enum: what a lent desk holds can be moved out only if a value is left in its place, and `take` leaves None.
 #[derive(Drop)]
 pub struct Desk<M: Memory> {
     memory: Option<M>,
