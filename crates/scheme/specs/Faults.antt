@@ -2,6 +2,7 @@
 use Rattle.std.specs.Prelude.{ℕ}
 use Rattle.scheme.specs.declared.fault.Layer.{Layer}
 use Rattle.scheme.specs.declared.fault.Layer.TheVariants.{Profile as profile, Input as input, Box as box}
+use Rattle.scheme.specs.declared.fault.Told.{Told}
 use Rattle.scheme.specs.declared.fault.ProfileFault.{ProfileFault}
 use Rattle.scheme.specs.declared.fault.ProfileFault.TheVariants.{OutOfRange}
 use Rattle.scheme.specs.declared.fault.InputFault.{InputFault}
@@ -10,11 +11,6 @@ use Rattle.scheme.specs.declared.fault.BoxFault.{BoxFault}
 use Rattle.scheme.specs.declared.fault.BoxFault.TheVariants.{MemorySmall, OutsideZone, SlipOut, Input}
 
 -- what a refusal tells
-pub record Told : Type 0 where
-  pub number : ℕ
-  pub layer : Layer
-  pub place : ℕ
-
 abbrev pub told : ℕ → Layer → ℕ → Told
 told n l p = record { number = n; layer = l; place = p }
 

@@ -1,11 +1,11 @@
 -- Which numbers make a profile, and the profile that a place begins with.
-use Rattle.std.specs.Prelude.{ℕ, ◌-◌, ◌*◌, Bool, true, ◌&&◌, List, [], ◌∷◌, ◌++◌, length, replicate, nat_le}
+use Rattle.std.specs.Prelude.{ℕ, ◌-◌, ◌*◌, Bool, ◌&&◌, List, [], ◌∷◌, ◌++◌, length, replicate, nat_le}
+use Rattle.std.specs.List.{list_all}
 use Rattle.scheme.specs.declared.profile.Profile.{Profile}
 
 -- every threshold is at least 1 and at most d
 abbrev pub all_within : ℕ → List ℕ → Bool
-all_within d [] = true
-all_within d (x ∷ xs) = nat_le 1 x && nat_le x d && all_within d xs
+all_within d = list_all (λ x. nat_le 1 x && nat_le x d)
 
 -- a setting is granted exactly where this holds
 abbrev pub lawful : ℕ → ℕ → ℕ → List ℕ → Bool

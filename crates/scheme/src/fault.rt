@@ -1,11 +1,12 @@
-// Why a setting or a call is refused. Each fault has a number, a layer and a place, all told by one definition.
+// Why a setting or a call is refused.
+// Each type of fault has one table of what its faults tell. A fault that nests in another tells the same there.
 
 ghost use Rattle.std.specs.Prelude.{◌≡◌};
 ghost use Rattle.scheme.specs.declared.fault.BoxFault.TheVariants.{Input as nested};
-ghost use Rattle.scheme.specs.Faults.{profile_told, input_told, box_told};
+ghost use Rattle.scheme.specs.Faults.{told, profile_told, input_told, box_told};
 
 // The part that refuses.
-#[derive(Clone, Copy)]
+#[derive(Clone, Copy, Debug, PartialEq, Eq)]
 pub enum Layer {
     Profile,
     Input,
@@ -13,21 +14,69 @@ pub enum Layer {
     Line,
 }
 
+// What a refusal tells. The place is that of the first word that offends, and 0 where none does.
+#[derive(Clone, Copy, Debug, PartialEq, Eq)]
+pub struct Told {
+    pub number: u32,
+    pub layer: Layer,
+    pub place: u32,
+}
+
+impl Told {
+    pub fn new(number: u32, layer: Layer, place: u32) -> Told
+        ensures { result ≡ told number layer place }
+    {
+        Told {
+            number,
+            layer,
+            place,
+        }
+    }
+}
+
+// A reason to refuse.
+pub trait Fault {
+    ghost use Rattle.scheme.specs.declared.fault.Told.{Told};
+
+    ghost told: { Self → Told };
+
+    fn told(&self) -> Told
+        ensures { result ≡ told self.now };
+
+    final fn number(&self) -> u32
+        ensures { result ≡ (told self.now).number }
+    {
+        self.told().number
+    }
+
+    final fn layer(&self) -> Layer
+        ensures { result ≡ (told self.now).layer }
+    {
+        self.told().layer
+    }
+
+    final fn place(&self) -> u32
+        ensures { result ≡ (told self.now).place }
+    {
+        self.told().place
+    }
+}
+
 // A number of a profile lies outside its range.
-#[derive(Clone, Copy)]
+#[derive(Clone, Copy, Debug, PartialEq, Eq)]
 pub enum ProfileFault {
     OutOfRange,
 }
 
 // What is wrong with the words of IN, with the place of the first word that offends.
-#[derive(Clone, Copy)]
+#[derive(Clone, Copy, Debug, PartialEq, Eq)]
 pub enum InputFault {
     ErrorRange(u32),
     ErrorTwice(u32),
     PublicTail(u32),
 }
 
-#[derive(Clone, Copy)]
+#[derive(Clone, Copy, Debug, PartialEq, Eq)]
 pub enum BoxFault {
     MemorySmall,
     OutsideZone(u32),
@@ -35,6 +84,7 @@ pub enum BoxFault {
     Input(InputFault),
 }
 
+// Not derived: a derived `From` promises nothing of the fault that it makes, and contracts of calls name it.
 impl From<InputFault> for BoxFault {
     ghost from_gives = { λ e r. r ≡ nested e };
 
@@ -43,89 +93,37 @@ impl From<InputFault> for BoxFault {
     }
 }
 
-impl ProfileFault {
-    pub fn number(&self) -> u32
-        ensures { result ≡ (profile_told self.now).number }
-    {
-        match self {
-            ProfileFault::OutOfRange => 1,
-        }
-    }
+impl Fault for ProfileFault {
+    ghost told = { profile_told };
 
-    pub fn layer(&self) -> Layer
-        ensures { result ≡ (profile_told self.now).layer }
-    {
+    fn told(&self) -> Told {
         match self {
-            ProfileFault::OutOfRange => Layer::Profile,
-        }
-    }
-
-    pub fn place(&self) -> u32
-        ensures { result ≡ (profile_told self.now).place }
-    {
-        match self {
-            ProfileFault::OutOfRange => 0,
+            ProfileFault::OutOfRange => Told::new(1, Layer::Profile, 0),
         }
     }
 }
 
-impl InputFault {
-    pub fn number(&self) -> u32
-        ensures { result ≡ (input_told self.now).number }
-    {
-        match self {
-            InputFault::ErrorRange(_) => 10,
-            InputFault::ErrorTwice(_) => 11,
-            InputFault::PublicTail(_) => 12,
-        }
-    }
+impl Fault for InputFault {
+    ghost told = { input_told };
 
-    pub fn layer(&self) -> Layer
-        ensures { result ≡ (input_told self.now).layer }
-    {
-        match self {
-            InputFault::ErrorRange(_) | InputFault::ErrorTwice(_) | InputFault::PublicTail(_) =>
-                Layer::Input,
-        }
-    }
-
-    pub fn place(&self) -> u32
-        ensures { result ≡ (input_told self.now).place }
-    {
-        match self {
-            InputFault::ErrorRange(p) | InputFault::ErrorTwice(p) | InputFault::PublicTail(p) => *p,
+    fn told(&self) -> Told {
+        match *self {
+            InputFault::ErrorRange(p) => Told::new(10, Layer::Input, p),
+            InputFault::ErrorTwice(p) => Told::new(11, Layer::Input, p),
+            InputFault::PublicTail(p) => Told::new(12, Layer::Input, p),
         }
     }
 }
 
-impl BoxFault {
-    pub fn number(&self) -> u32
-        ensures { result ≡ (box_told self.now).number }
-    {
-        match self {
-            BoxFault::MemorySmall => 2,
-            BoxFault::OutsideZone(_) => 3,
-            BoxFault::SlipOut => 4,
-            BoxFault::Input(f) => f.number(),
-        }
-    }
+impl Fault for BoxFault {
+    ghost told = { box_told };
 
-    pub fn layer(&self) -> Layer
-        ensures { result ≡ (box_told self.now).layer }
-    {
-        match self {
-            BoxFault::MemorySmall | BoxFault::OutsideZone(_) | BoxFault::SlipOut => Layer::Box,
-            BoxFault::Input(f) => f.layer(),
-        }
-    }
-
-    pub fn place(&self) -> u32
-        ensures { result ≡ (box_told self.now).place }
-    {
-        match self {
-            BoxFault::MemorySmall | BoxFault::SlipOut => 0,
-            BoxFault::OutsideZone(p) => *p,
-            BoxFault::Input(f) => f.place(),
+    fn told(&self) -> Told {
+        match *self {
+            BoxFault::MemorySmall => Told::new(2, Layer::Box, 0),
+            BoxFault::OutsideZone(p) => Told::new(3, Layer::Box, p),
+            BoxFault::SlipOut => Told::new(4, Layer::Box, 0),
+            BoxFault::Input(f) => f.told(),
         }
     }
 }

@@ -4,7 +4,8 @@ ghost use Rattle.std.specs.Prelude.{◌≡◌, ℕ, ◌*◌, ◌<◌, ◌≤◌,
 
 // r: bits of a row. d: positions of each half of a key. t: ones of an error row.
 // k: rounds of an unsealing, each with a threshold of its own; the entries past k are 0.
-#[derive(Clone, Copy)]
+// An array and its `k`, and no `ArrayVec`: a profile is copied wherever a box is opened, and an `ArrayVec` is not `Copy`.
+#[derive(Clone, Copy, Debug, PartialEq, Eq)]
 pub struct Profile {
     pub r: u32,
     pub d: u32,

@@ -1,6 +1,6 @@
 // Which numbers make a profile. A setting outside the ranges is refused, and leaves the profile that was there.
 
-ghost use Rattle.std.specs.Prelude.{◌≡◌, ◌*◌, ◌≤◌, ◌&&◌, length, is_ok, if◌then◌else◌, nat_le};
+ghost use Rattle.std.specs.Prelude.{◌≡◌, ◌*◌, ◌≤◌, length, is_ok, if◌then◌else◌};
 ghost use Rattle.scheme.specs.Setting.{all_within, lawful, entries as padded_entries, numbers, chosen_numbers, first_numbers};
 
 use crate::fault::ProfileFault;
@@ -39,30 +39,24 @@ impl Profile {
     }
 }
 
-// Whether r, d and t lie in their ranges.
-fn in_range(r: u32, d: u32, t: u32) -> bool
-    ensures { result ≡ (nat_le 3 r && nat_le r 16000 && nat_le 1 d && nat_le d 63 && nat_le d r && nat_le 1 t && nat_le t 255 && nat_le t (2 * r)) }
-{
-    3 <= r && r <= 16000 && 1 <= d && d <= 63 && d <= r && 1 <= t && t <= 255 && t <= 2 * r
-}
-
 // Whether a profile may have these numbers.
 fn is_lawful(r: u32, d: u32, t: u32, thresholds: &[u32]) -> bool
     ensures { result ≡ lawful r d t thresholds.now }
 {
-    in_range(r, d, t) && 1 <= thresholds.len() && thresholds.len() <= 16 && within(thresholds, d)
+    (3..=16000).contains(&r)
+        && (1..=63).contains(&d)
+        && d <= r
+        && (1..=255).contains(&t)
+        && t <= 2 * r
+        && (1..=16).contains(&thresholds.len())
+        && within(thresholds, d)
 }
 
 // Whether every threshold is at least 1 and at most d.
 fn within(thresholds: &[u32], d: u32) -> bool
     ensures { result ≡ all_within d thresholds.now }
 {
-    for x in thresholds {
-        if *x < 1 || *x > d {
-            return false;
-        }
-    }
-    true
+    thresholds.iter().all(|x| (1..=d).contains(x))
 }
 
 // The thresholds, and 0 in the entries after them.
@@ -71,8 +65,6 @@ fn entries(thresholds: &[u32]) -> [u32; 16]
     ensures { result ≡ padded_entries thresholds.now }
 {
     let mut all = [0; 16];
-    for (i, x) in thresholds.iter().enumerate() {
-        all[i] = *x;
-    }
+    all[..thresholds.len()].copy_from_slice(thresholds);
     all
 }

@@ -1,5 +1,6 @@
 // Where the zones of a box lie, by its profile: IN, KEY, OUT and WORK, one after the other from address 0.
 // A profile's ranges bound them, so no sum here can pass 2^32.
+// Nine methods and no struct of zones: callers want one number at a time, and a struct's fields would repeat each sum and each bound.
 
 ghost use Rattle.std.specs.Prelude.{◌≡◌, ◌≤◌};
 ghost use Rattle.scheme.specs.Zones.{W, B, in_size, key_at, out_at, out_size, work_at, work_size, N};
@@ -12,7 +13,7 @@ impl Profile {
         ensures value { result ≡ W self.now }
         ensures bound { (1 ≤ result) × (result ≤ 500) }
     {
-        (self.r + 31) / 32
+        self.r.div_ceil(32)
     }
 
     // The place of IN where a row is read.
