@@ -4,6 +4,7 @@
 #![tactic(auto)]
 
 use keybox::lent::{SealInput, seal_words};
+use scheme::fault::Fault;
 use scheme::profile::Profile;
 
 // Opens a box over `words` with one threshold, gives it the positions and the public row, and seals.

@@ -1,8 +1,9 @@
 -- The bytes of a printed line.
-use Rattle.std.specs.Prelude.{ℕ, zero, suc, ◌+◌, ◌*◌, ◌/◌, ◌%◌, ◌^◌, cond, List, [], ◌∷◌, ◌++◌, take, Ok, Err, codes, decimal, Result, nat_lt}
+use Rattle.std.specs.Prelude.{ℕ, zero, suc, ◌*◌, ◌/◌, ◌%◌, ◌^◌, List, [], ◌∷◌, ◌++◌, Ok, Err, codes, decimal, Result}
+use Rattle.std.specs.Char.{digit_char}
 use Rattle.scheme.specs.declared.fault.Layer.{Layer}
 use Rattle.scheme.specs.declared.fault.Layer.TheVariants.{Profile, Input, Box, Line}
-use Rattle.scheme.specs.Faults.{Told}
+use Rattle.scheme.specs.declared.fault.Told.{Told}
 use Rattle.keybox.specs.declared.call.Grant.TheVariants.{Done, Word, Rotations}
 use Rattle.script.specs.declared.grant.LineGrant.{LineGrant}
 use Rattle.script.specs.declared.grant.LineGrant.TheVariants.{Call, Heard}
@@ -12,15 +13,12 @@ use Rattle.script.specs.Faults.{line_told}
 
 -- the bytes that a reply holds
 abbrev pub said : Reply → List ℕ
-said r = take r.len r.bytes
-
-abbrev pub glyph : ℕ → ℕ
-glyph d = cond (nat_lt d 10) (48 + d) (87 + d)
+said r = r.text.bytes
 
 -- the k lowest hexadecimal digits of a word, the highest of them first
 abbrev pub hexadecimal : ℕ → ℕ → List ℕ
 hexadecimal zero w = []
-hexadecimal (suc k) w = glyph (w / 2 ^ (4 * k) % 16) ∷ hexadecimal k w
+hexadecimal (suc k) w = digit_char (w / 2 ^ (4 * k) % 16) ∷ hexadecimal k w
 
 -- a part behind a space
 abbrev pub spaced : List ℕ → List ℕ

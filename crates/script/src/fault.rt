@@ -1,14 +1,14 @@
 // Why a line is refused.
-// A fault of the profile or of the box nests in the line's, and its number, layer and place come up unchanged.
+// A fault of the profile or of the box nests in the line's, and what it tells comes up unchanged.
 
 ghost use Rattle.std.specs.Prelude.{◌≡◌};
 ghost use Rattle.script.specs.declared.fault.LineFault.TheVariants.{Profile as of_profile, Box as of_box};
 ghost use Rattle.script.specs.Faults.{line_told};
 
-use scheme::fault::{BoxFault, Layer, ProfileFault};
+use scheme::fault::{BoxFault, Fault, Layer, ProfileFault, Told};
 
 // Malformed: the line has no form that a script has. NoProfile: no profile was granted in the first line.
-#[derive(Clone, Copy)]
+#[derive(Clone, Copy, Debug, PartialEq, Eq)]
 pub enum LineFault {
     Malformed,
     NoProfile,
@@ -16,6 +16,7 @@ pub enum LineFault {
     Box(BoxFault),
 }
 
+// Neither `From` is derived: a derived one promises nothing of the fault that it makes, and contracts name it.
 impl From<ProfileFault> for LineFault {
     ghost from_gives = { λ e r. r ≡ of_profile e };
 
@@ -32,35 +33,15 @@ impl From<BoxFault> for LineFault {
     }
 }
 
-impl LineFault {
-    pub fn number(&self) -> u32
-        ensures { result ≡ (line_told self.now).number }
-    {
-        match self {
-            LineFault::Malformed => 20,
-            LineFault::NoProfile => 21,
-            LineFault::Profile(f) => f.number(),
-            LineFault::Box(f) => f.number(),
-        }
-    }
+impl Fault for LineFault {
+    ghost told = { line_told };
 
-    pub fn layer(&self) -> Layer
-        ensures { result ≡ (line_told self.now).layer }
-    {
-        match self {
-            LineFault::Malformed | LineFault::NoProfile => Layer::Line,
-            LineFault::Profile(f) => f.layer(),
-            LineFault::Box(f) => f.layer(),
-        }
-    }
-
-    pub fn place(&self) -> u32
-        ensures { result ≡ (line_told self.now).place }
-    {
-        match self {
-            LineFault::Malformed | LineFault::NoProfile => 0,
-            LineFault::Profile(f) => f.place(),
-            LineFault::Box(f) => f.place(),
+    fn told(&self) -> Told {
+        match *self {
+            LineFault::Malformed => Told::new(20, Layer::Line, 0),
+            LineFault::NoProfile => Told::new(21, Layer::Line, 0),
+            LineFault::Profile(f) => f.told(),
+            LineFault::Box(f) => f.told(),
         }
     }
 }
