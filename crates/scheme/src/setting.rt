@@ -1,6 +1,6 @@
 // Which numbers make a profile. A setting outside the ranges is refused, and leaves the profile that was there.
 
-ghost use Rattle.std.specs.Prelude.{◌≡◌, ◌*◌, ◌≤◌, length, is_ok, if◌then◌else◌};
+ghost use Rattle.std.specs.Prelude.{◌≡◌, ◌*◌, ◌≤◌, ◌&&◌, length, is_ok, if◌then◌else◌, nat_le};
 ghost use Rattle.scheme.specs.Setting.{all_within, lawful, entries as padded_entries, numbers, chosen_numbers, first_numbers};
 
 use crate::fault::ProfileFault;
@@ -39,17 +39,18 @@ impl Profile {
     }
 }
 
+// Whether r, d and t lie in their ranges.
+fn in_range(r: u32, d: u32, t: u32) -> bool
+    ensures { result ≡ (nat_le 3 r && nat_le r 16000 && nat_le 1 d && nat_le d 63 && nat_le d r && nat_le 1 t && nat_le t 255 && nat_le t (2 * r)) }
+{
+    matches!((r, d, t), (3..=16000, 1..=63, 1..=255)) && d <= r && t <= 2 * r
+}
+
 // Whether a profile may have these numbers.
 fn is_lawful(r: u32, d: u32, t: u32, thresholds: &[u32]) -> bool
     ensures { result ≡ lawful r d t thresholds.now }
 {
-    (3..=16000).contains(&r)
-        && (1..=63).contains(&d)
-        && d <= r
-        && (1..=255).contains(&t)
-        && t <= 2 * r
-        && (1..=16).contains(&thresholds.len())
-        && within(thresholds, d)
+    in_range(r, d, t) && (1..=16).contains(&thresholds.len()) && within(thresholds, d)
 }
 
 // Whether every threshold is at least 1 and at most d.
