@@ -1,7 +1,7 @@
 // A printed line as it is put together.
 // The longest is a refusal, with three numbers of at most ten digits and the name of a layer: 44 bytes with the line feed.
 
-ghost use Rattle.std.specs.Prelude.{◌≡◌, []};
+ghost use Rattle.std.specs.Prelude.{◌≡◌, ◌≤◌, [], length};
 ghost use Rattle.script.specs.Printing.{said};
 
 use arrayvec::ArrayString;
@@ -21,7 +21,8 @@ impl Reply {
     }
 
     pub fn as_bytes(&self) -> &[u8]
-        ensures { result.now ≡ said self.now }
+        ensures bytes { result.now ≡ said self.now }
+        ensures fits { length result.now ≤ 44 }
     {
         self.text.as_str().as_bytes()
     }
