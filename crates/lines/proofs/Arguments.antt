@@ -1,5 +1,5 @@
 -- The parts of a line read one after the other, as numbers: what is read so far and what is left give the same list at every step.
-use Rattle.std.proofs.Common.{◌≡◌, ℕ, ◌-◌, ◌<◌, ◌≤◌, Bool, true, false, cond, eqb, ltb, List, [], ◌∷◌, ◌++◌, length, get_or, take, drop, Some, None, Option, sym, refl, ap, ◌∙◌, append_assoc, arith}
+use Rattle.std.proofs.Common.{◌≡◌, ℕ, ◌-◌, ◌<◌, ◌≤◌, Bool, true, false, cond, eqb, ltb, List, [], ◌∷◌, length, get_or, take, drop, Some, None, Option, sym, refl, ap, ◌∙◌, arith}
 use Rattle.std.proofs.lemmas.List.{take_rest}
 use Rattle.std.proofs.lemmas.Bool.{le-ltb}
 use Rattle.keybox.specs.declared.call.Call.TheVariants.{Give}
@@ -12,52 +12,43 @@ pub then_then : {X Y Z : Type 0} (o : Option X) (f : X → Option Y) (g : Y → 
 then_then None f g = refl
 then_then (Some x) f g = refl
 
--- the numbers ns, and then those of the parts that are left
-abbrev pub numbers_after : List ℕ → Option (List (List ℕ)) → Option (List ℕ)
-numbers_after ns o = then o (λ ps. then (numbers ps) (λ ms. Some (ns ++ ms)))
-
-push : (ns : List ℕ) (n : ℕ) (o : Option (List ℕ))
-    → then o (λ ms. Some ((ns ++ n ∷ []) ++ ms)) ≡ then (then o (λ ms. Some (n ∷ ms))) (λ ms. Some (ns ++ ms))
-push ns n None = refl
-push ns n (Some ms) = ap Some (append_assoc ns (n ∷ []) ms)
-
 -- a number, if there is one, beside the parts after it
 abbrev beside : List (List ℕ) → Option ℕ → Option (ℕ × Option (List (List ℕ)))
 beside ps q = then q (λ m. Some (m, Some ps))
 
--- ns, the number, and then those of the parts after it
-abbrev joined : List ℕ → List (List ℕ) → Option ℕ → Option (List ℕ)
-joined ns ps q = then (then q (λ m. then (numbers ps) (λ ms. Some (m ∷ ms)))) (λ ms. Some (ns ++ ms))
+after_number : (q : Option ℕ) (ps : List (List ℕ)) (n : ℕ) (p : Option (List (List ℕ))) → Some (n, p) ≡ beside ps q → (q ≡ Some n) × (p ≡ Some ps)
+after_number None ps n p e = absurd (let z : ◌≡◌ {A = ℕ} 0 1 = cc in omega arith)
+after_number (Some m) ps n p e =
+    let both : ◌≡◌ {A = ℕ × Option (List (List ℕ))} (n, p) (m, Some ps) = cc in
+    (ap (λ x. Some x.0) (sym both), ap (λ x. x.1) both)
 
-step : (ns : List ℕ) (q : Option ℕ) (ps : List (List ℕ)) (n : ℕ) (o : Option (List (List ℕ))) → Some (n, o) ≡ beside ps q
-    → numbers_after (ns ++ n ∷ []) o ≡ joined ns ps q
-step ns None ps n o e = absurd (let z : ◌≡◌ {A = ℕ} 0 1 = cc in omega arith)
-step ns (Some m) ps n o e =
-    let both : ◌≡◌ {A = ℕ × Option (List (List ℕ))} (n, o) (m, Some ps) = cc in
-    let a : n ≡ m = ap (λ x. x.0) both in
-    let b : o ≡ Some ps = ap (λ x. x.1) both in
-    rw (a, b) (push ns m (numbers ps))
-
--- a number is read
-pub numbers_more : (ns : List ℕ) (o : Option (List (List ℕ))) (n : ℕ) (p : Option (List (List ℕ))) → Some (n, p) ≡ numbered o
-    → numbers_after (ns ++ n ∷ []) p ≡ numbers_after ns o
-numbers_more ns None n p e = absurd (let z : ◌≡◌ {A = ℕ} 0 1 = cc in omega arith)
-numbers_more ns (Some []) n p e = absurd (let z : ◌≡◌ {A = ℕ} 0 1 = cc in omega arith)
-numbers_more ns (Some (q ∷ ps)) n p e = step ns (number q) ps n p e
+-- a number is read: what is made of it and the numbers after it is what is made of all
+pub numbers_more : {Y : Type 0} (f : List ℕ → Option Y) (o : Option (List (List ℕ))) (n : ℕ) (p : Option (List (List ℕ))) → Some (n, p) ≡ numbered o
+    → then (then p numbers) (λ ns. f (n ∷ ns)) ≡ then (then o numbers) f
+numbers_more f None n p e = absurd (let z : ◌≡◌ {A = ℕ} 0 1 = cc in omega arith)
+numbers_more f (Some []) n p e = absurd (let z : ◌≡◌ {A = ℕ} 0 1 = cc in omega arith)
+numbers_more f (Some (q ∷ ps)) n p e =
+    let a = after_number (number q) ps n p e in
+    rw (a.0, a.1) (sym (then_then (numbers ps) (λ ns. Some (n ∷ ns)) f))
 
 -- a part that is no number leaves none
-fail : (ns : List ℕ) (q : Option ℕ) (ps : List (List ℕ)) → None ≡ beside ps q → None ≡ joined ns ps q
-fail ns None ps e = refl
-fail ns (Some m) ps e = absurd (let z : ◌≡◌ {A = ℕ} 0 1 = cc in omega arith)
+no_number : (q : Option ℕ) (ps : List (List ℕ)) (o : Option (List ℕ)) → None ≡ beside ps q → None ≡ then q (λ m. then o (λ ms. Some (m ∷ ms)))
+no_number None ps o e = refl
+no_number (Some m) ps o e = absurd (let z : ◌≡◌ {A = ℕ} 0 1 = cc in omega arith)
 
-stuck : (ns : List ℕ) (b : Bool) (ps : List (List ℕ)) → 0 < length ps → None ≡ numbered (cond b (Some ps) None) → None ≡ numbers_after ns (cond b (Some ps) None)
-stuck ns false ps h e = refl
-stuck ns true [] h e = absurd (omega arith)
-stuck ns true (p ∷ ps) h e = fail ns (number p) ps e
+stuck : (b : Bool) (ps : List (List ℕ)) → 0 < length ps → None ≡ numbered (cond b (Some ps) None) → None ≡ then (cond b (Some ps) None) numbers
+stuck false ps h e = refl
+stuck true [] h e = absurd (omega arith)
+stuck true (p ∷ ps) h e = no_number (number p) ps (numbers ps) e
 
-pub numbers_none : (ns xs : List ℕ) → 0 < length xs → None ≡ numbered (parts xs) → None ≡ numbers_after ns (parts xs)
-numbers_none ns [] h e = absurd (omega arith)
-numbers_none ns (x ∷ xs) h e = stuck ns (eqb x 32) (split 32 xs) (split_some 32 xs) e
+pub numbers_none : (xs : List ℕ) → 0 < length xs → None ≡ numbered (parts xs) → None ≡ then (parts xs) numbers
+numbers_none [] h e = absurd (omega arith)
+numbers_none (x ∷ xs) h e = stuck (eqb x 32) (split 32 xs) (split_some 32 xs) e
+
+-- where the next part is no number, or missing, nothing is made of the numbers
+pub too_few : {Y : Type 0} (f : List ℕ → Option Y) (xs : List ℕ) → f [] ≡ None → None ≡ numbered (parts xs) → None ≡ then (then (parts xs) numbers) f
+too_few f [] h e = sym h
+too_few f (x ∷ xs) h e = ap (λ o. then o f) (numbers_none (x ∷ xs) (omega arith) e)
 
 pub then_none : {X Y : Type 0} (o : Option X) (f : X → Option Y) → ((x : X) → f x ≡ None) → None ≡ then o f
 then_none None f h = refl
@@ -74,22 +65,16 @@ alone_none q [] h = absurd (omega arith)
 alone_none q (x ∷ xs) h = ends q (eqb x 32) (split 32 xs) (split_some 32 xs)
 
 -- a place and a word are read, and then nothing more
-after_place : (q : Option ℕ) (ps : List (List ℕ)) (n : ℕ) (p : Option (List (List ℕ))) → Some (n, p) ≡ beside ps q → (q ≡ Some n) × (p ≡ Some ps)
-after_place None ps n p e = absurd (let z : ◌≡◌ {A = ℕ} 0 1 = cc in omega arith)
-after_place (Some m) ps n p e =
-    let both : ◌≡◌ {A = ℕ × Option (List (List ℕ))} (n, p) (m, Some ps) = cc in
-    (ap (λ x. Some x.0) (sym both), ap (λ x. x.1) both)
-
 pub giving_at : (o : Option (List (List ℕ))) (n : ℕ) (p : Option (List (List ℕ))) (w : List ℕ) (r : Option (List (List ℕ)))
     → Some (n, p) ≡ numbered o → Some (w, r) ≡ headed p
     → then (word w) (λ v. then r (alone (call (Give n v)))) ≡ then o giving
 giving_at None n p w r e k = absurd (let z : ◌≡◌ {A = ℕ} 0 1 = cc in omega arith)
 giving_at (Some []) n p w r e k = absurd (let z : ◌≡◌ {A = ℕ} 0 1 = cc in omega arith)
 giving_at (Some (i ∷ [])) n p w r e k =
-    let a = after_place (number i) [] n p e in
+    let a = after_number (number i) [] n p e in
     absurd (let z : ◌≡◌ {A = ℕ} 0 1 = let y : Some (w, r) ≡ None = k ∙ ap headed a.1 in cc in omega arith)
 giving_at (Some (i ∷ v ∷ ps)) n p w r e k =
-    let a = after_place (number i) (v ∷ ps) n p e in
+    let a = after_number (number i) (v ∷ ps) n p e in
     let y : ◌≡◌ {A = Option (List ℕ × Option (List (List ℕ)))} (Some (w, r)) (Some (v, Some ps)) = k ∙ ap headed a.1 in
     let both : ◌≡◌ {A = List ℕ × Option (List (List ℕ))} (w, r) (v, Some ps) = cc in
     rw (a.0, ap (λ x. x.0) both, ap (λ x. x.1) both) refl

@@ -1,5 +1,5 @@
 -- What a line of a script asks for. A line is a letter and the rest after it, with single spaces between parts.
-use Rattle.std.specs.Prelude.{ℕ, Bool, cond, List, [], ◌∷◌, length, take, drop, Some, None, Option, ◌==◌, nat_lt, slice_index}
+use Rattle.std.specs.Prelude.{ℕ, Bool, cond, List, [], ◌∷◌, length, drop, Some, None, Option, ◌==◌, nat_lt, slice_index}
 use Rattle.keybox.specs.declared.call.Call.{Call}
 use Rattle.keybox.specs.declared.call.Call.TheVariants as calls
 use Rattle.lines.specs.declared.command.Setting.{Setting}
@@ -26,7 +26,7 @@ setting ns = set (slice_index ns 0) (slice_index ns 1) (slice_index ns 2) (drop 
 
 -- the numbers of a line
 abbrev pub listed : Setting → List ℕ
-listed s = take s.count s.numbers
+listed s = s.r ∷ s.d ∷ s.t ∷ s.thresholds.items
 
 -- what an order asks for, and a command
 abbrev pub ordered : Order → Ask

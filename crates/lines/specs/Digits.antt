@@ -1,5 +1,6 @@
 -- Numbers as a script writes them. A character that is no digit has no value, and neither has a text that holds one.
 use Rattle.std.specs.Prelude.{ℕ, ◌+◌, ◌-◌, ◌*◌, ◌^◌, Bool, cond, ◌&&◌, List, [], ◌∷◌, length, Some, None, Option, ◌==◌, nat_le, nat_lt}
+use Rattle.std.specs.Option.{option_and_then}
 use Rattle.lines.specs.declared.digits.Base.{Base}
 use Rattle.lines.specs.declared.digits.Base.TheVariants.{Decimal, Hexadecimal}
 
@@ -24,8 +25,7 @@ digit Hexadecimal b = hexadecimal_digit b
 
 -- what goes on with a value, if there is one
 abbrev pub then : {X Y : Type 0} → Option X → (X → Option Y) → Option Y
-then None f = None
-then (Some x) f = f x
+then o f = option_and_then f o
 
 -- the value of a text of digits after a first part of it with the value v
 abbrev pub value_after : Base → ℕ → List ℕ → Option ℕ

@@ -1,15 +1,10 @@
 -- Bytes taken apart at a separator: the lines of an input, and the parts of a line.
 use Rattle.std.specs.Prelude.{ℕ, cond, List, [], ◌∷◌, length, take, ◌==◌}
-
--- a byte before the first of some pieces
-abbrev pub onto : ℕ → List (List ℕ) → List (List ℕ)
-onto x [] = (x ∷ []) ∷ []
-onto x (p ∷ ps) = (x ∷ p) ∷ ps
+use Rattle.std.specs.List.{slice_split}
 
 -- the pieces between the separators, one more than there are separators
 abbrev pub split : ℕ → List ℕ → List (List ℕ)
-split s [] = [] ∷ []
-split s (x ∷ xs) = cond (x == s) ([] ∷ split s xs) (onto x (split s xs))
+split s xs = slice_split (λ x. x == s) xs
 
 -- some pieces without an empty last one
 abbrev pub ended : List (List ℕ) → List (List ℕ)

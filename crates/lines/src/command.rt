@@ -1,15 +1,15 @@
 // What a line of a script can ask for: a box with a profile of its choice, or something of the box that is open.
 // A line names no slip and no memory, so a command is plain numbers.
 
-ghost use Rattle.std.specs.Prelude.{◌≡◌, ◌≤◌, length, take, drop, slice_index};
+use arrayvec::ArrayVec;
 
-// The numbers of a profile as a line gives them: r, d, t and then the thresholds. A line has room for no more than 59.
-#[derive(Clone, Copy)]
+// The numbers of a profile as a line gives them. A line has room for no more than 59, so for 56 thresholds.
+#[derive(Clone, Drop)]
 pub struct Setting {
-    pub(crate) numbers: [u32; 59],
-    pub(crate) count: usize,
-    ghost entries: { length numbers ≡ 59 },
-    ghost within: { (3 ≤ count) × (count ≤ 59) },
+    pub r: u32,
+    pub d: u32,
+    pub t: u32,
+    pub thresholds: ArrayVec<u32, 56>,
 }
 
 // What an open box can be told to do.
@@ -22,34 +22,8 @@ pub enum Order {
     Hear,
 }
 
-#[derive(Clone, Copy)]
+#[derive(Clone, Drop)]
 pub enum Command {
     Set(Setting),
     Order(Order),
-}
-
-impl Setting {
-    pub fn r(&self) -> u32
-        ensures { result ≡ slice_index (take self.now.count self.now.numbers) 0 }
-    {
-        self.numbers[0]
-    }
-
-    pub fn d(&self) -> u32
-        ensures { result ≡ slice_index (take self.now.count self.now.numbers) 1 }
-    {
-        self.numbers[1]
-    }
-
-    pub fn t(&self) -> u32
-        ensures { result ≡ slice_index (take self.now.count self.now.numbers) 2 }
-    {
-        self.numbers[2]
-    }
-
-    pub fn thresholds(&self) -> &[u32]
-        ensures { result.now ≡ drop 3 (take self.now.count self.now.numbers) }
-    {
-        &self.numbers[3..self.count]
-    }
 }

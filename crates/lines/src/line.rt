@@ -3,25 +3,22 @@
 
 ghost use Rattle.std.specs.Prelude.{◌≡◌, ◌+◌, ◌≤◌, [], ◌∷◌, ◌++◌, length, take, ◌==◌};
 
-// The first `len` bytes are those of the line.
-#[derive(Clone, Copy)]
+use arrayvec::ArrayVec;
+
+#[derive(Clone, Drop)]
 pub struct Line {
     number: u32,
-    bytes: [u8; 121],
-    len: usize,
-    ghost room: { length bytes ≡ 121 },
-    ghost within: { len ≤ 121 },
+    bytes: ArrayVec<u8, 121>,
 }
 
 impl Line {
     pub(crate) fn empty(number: u32) -> Line
         ensures number { result.number ≡ number }
-        ensures len { result.len ≡ 0 }
+        ensures bytes { result.bytes.items ≡ [] }
     {
         Line {
             number,
-            bytes: [0; 121],
-            len: 0,
+            bytes: ArrayVec::new(),
         }
     }
 
@@ -32,25 +29,24 @@ impl Line {
     }
 
     pub fn as_bytes(&self) -> &[u8]
-        ensures { result.now ≡ take self.now.len self.now.bytes }
+        ensures { result.now ≡ self.now.bytes.items }
     {
-        &self.bytes[0..self.len]
+        self.bytes.as_slice()
     }
 
     pub(crate) fn is_empty(&self) -> bool
-        ensures { result ≡ (self.now.len == 0) }
+        ensures { result ≡ (length self.now.bytes.items == 0) }
     {
-        self.len == 0
+        self.bytes.is_empty()
     }
 
     pub(crate) fn push(&mut self, byte: u8)
         ensures number { self.new.number ≡ self.old.number }
-        ensures bytes { take self.new.len self.new.bytes ≡ take 121 (take self.old.len self.old.bytes ++ byte ∷ []) }
-        ensures len { self.new.len ≤ self.old.len + 1 }
+        ensures bytes { self.new.bytes.items ≡ take 121 (self.old.bytes.items ++ byte ∷ []) }
+        ensures len { length self.new.bytes.items ≤ length self.old.bytes.items + 1 }
     {
-        if self.len < self.bytes.len() {
-            self.bytes[self.len] = byte;
-            self.len += 1;
+        if !self.bytes.is_full() {
+            self.bytes.push(byte);
         }
     }
 }

@@ -10,16 +10,14 @@ ghost use Rattle.lines.specs.declared.command.Command.TheVariants.{Set};
 
 use crate::command::{Command, Order, Setting};
 use crate::digits::{number, word};
+use arrayvec::ArrayVec;
 
 // The bytes before the first space, and the rest from that space on.
 fn until_space(text: &[u8]) -> (&[u8], &[u8])
     ensures value { headed (Some (split 32 text.now)) ≡ Some (result.0.now, parts result.1.now) }
     ensures whole { length result.0.now + length result.1.now ≡ length text.now }
 {
-    let mut end = 0;
-    while end < text.len() && text[end] != b' ' {
-        end += 1;
-    }
+    let end = text.iter().position(|b| *b == b' ').unwrap_or(text.len());
     text.split_at(end)
 }
 
@@ -43,25 +41,34 @@ fn next_number(rest: &[u8]) -> Option<(u32, &[u8])>
     Some((number(text)?, rest))
 }
 
+// The numbers that all parts write.
+fn numbers(mut rest: &[u8]) -> Option<ArrayVec<u32, 56>>
+    requires { length rest.now ≤ 113 }
+    ensures { option_map (λ ns. ns.items) result ≡ then (parts rest.now) numbers_of }
+{
+    let mut numbers = ArrayVec::new();
+    while !rest.is_empty() {
+        let (n, after) = next_number(rest)?;
+        numbers.push(n);
+        rest = after;
+    }
+    Some(numbers)
+}
+
 // r, d, t and the thresholds.
 fn setting(rest: &[u8]) -> Option<Setting>
     requires { length rest.now ≤ 119 }
     ensures { option_map (λ s. request (Set s)) result ≡ then (parts rest.now) (λ ps. then (numbers_of ps) if_three) }
 {
-    let mut numbers = [0; 59];
-    let mut count = 0;
-    let mut left = rest;
-    while !left.is_empty() {
-        let (n, after) = next_number(left)?;
-        numbers[count] = n;
-        count += 1;
-        left = after;
-    }
-    if count < 3 {
-        None
-    } else {
-        Some(Setting { numbers, count })
-    }
+    let (r, rest) = next_number(rest)?;
+    let (d, rest) = next_number(rest)?;
+    let (t, rest) = next_number(rest)?;
+    Some(Setting {
+        r,
+        d,
+        t,
+        thresholds: numbers(rest)?,
+    })
 }
 
 // An order with no part after it.

@@ -7,6 +7,7 @@ ghost use Rattle.lines.specs.Feeding.{line_of, cut_of, pushed, closed, completed
 
 use crate::line::Line;
 use crate::splitter::Splitter;
+use std::mem;
 
 const LIMIT: u32 = 65536;
 
@@ -54,8 +55,7 @@ impl Splitter {
         ensures line { result ≡ self.old.line }
         ensures after { cut_of self.new ≡ (completed self.old.count (line_of self.old.line)).after }
     {
-        let line = self.line;
-        self.line = Line::empty(line.number() + 1);
-        line
+        let next = Line::empty(self.line.number() + 1);
+        mem::replace(&mut self.line, next)
     }
 }

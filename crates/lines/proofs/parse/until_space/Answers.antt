@@ -1,29 +1,21 @@
--- The bytes passed belong to the first part, until a space or the end.
-use Rattle.std.proofs.Common.{◌≡◌, ◌<◌, length, get_or, take, drop, Some, sym, ap, ◌∙◌, add-zero, arith, length-drop, get_or-drop, rules, ne_eqb}
-use Rattle.lines.specs.Splitting.{split}
-use Rattle.lines.specs.Commands.{headed, parts}
-use Rattle.lines.proofs.Pieces.{glued_none, split_more, headed_at}
+-- The search for a space ends at the first one, or at the end.
+use Rattle.std.proofs.Common.{◌≡◌, ℕ, ◌≤◌, cond, ltb, length, None, Some, ap, ◌∙◌, arith, rules, tests, not}
+use Rattle.std.specs.List.{position_or_len}
+use Rattle.std.specs.Option.{unwrap_or}
+use Rattle.std.proofs.lemmas.Iterator.{YieldsList-from_slice}
+use Rattle.std.proofs.lemmas.Iterator.Search.{position_from_yields_List}
+use Rattle.std.proofs.lemmas.List.Sums.{prefix_len-le-length}
+use Rattle.lines.proofs.Pieces.{is_space, headed_first}
 use Rattle.lines.proofs.parse.until_space.Goals as goal
-use Rattle.lines.proofs.parse.until_space.Goals.{then-loop-end-test+else-text-end-ne32, else-loop-end-test}
 
-pub loop-end-init : goal.loop-end-init
-loop-end-init c = (glued_none 32 c.args.text.now, omega arith)
+found_or_end : (n m : ℕ) → n ≤ m → unwrap_or (cond (ltb n m) (Some n) None) m ≡ n
+found_or_end n m h = grind arith
 
-pub loop-end-preserved : goal.loop-end-preserved
-loop-end-preserved c = (
-  split_more 32 c.args.text.now c.loop-end.end c.loop-end-test.true (ne_eqb _ 32 c.if-text-end-ne32.true) ∙ c.loop-end.invariant.0,
-  omega arith,
-)
-
-pub returns : goal.returns
-returns c =
+pub returns-clause-value : goal.returns-clause-value
+returns-clause-value c =
     let xs = c.args.text.now in
-    let i = c.loop-end.end in
-    let space : 0 < length (drop i xs) → get_or (drop i xs) 0 0 ≡ 32 =
-    λ h. elim c.loop-end-test.branch [
-      | then-loop-end-test+else-text-end-ne32 w ↦ simp (get_or-drop, add-zero) w.if-text-end-ne32.false
-      | else-loop-end-test w ↦ absurd (omega (arith, length-drop i xs))
-    ] in
-    let e : headed (Some (split 32 xs)) ≡ Some (take i xs, parts (drop i xs)) =
-    ap (λ ps. headed (Some ps)) (sym c.loop-end.invariant.0) ∙ headed_at (take i xs) (drop i xs) space in
-    record { value = e ∙ sym (simp (c.split_at.ensures.front, c.split_at.ensures.back)); whole = search rules }
+    let n = position_or_len is_space xs in
+    let found = position_from_yields_List is_space _ _ c.position.result c.position.ensures.ran (YieldsList-from_slice xs cc) (λ x b q k. search (rules, tests)) in
+    let e : c.unwrap_or-end.result ≡ n =
+    c.unwrap_or-end.ensures ∙ ap (λ o. unwrap_or o (length xs)) found ∙ found_or_end n (length xs) (prefix_len-le-length (λ x. not (is_space x)) xs) in
+    rw (c.split_at.ensures.front, c.split_at.ensures.back, e) (headed_first xs)
