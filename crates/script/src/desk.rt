@@ -33,7 +33,7 @@ fn profile(setting: &Setting) -> Result<Profile, ProfileFault>
     ensures { result ≡ profile_from (listed setting.now) }
 {
     let mut profile = Profile::standard();
-    profile.set(setting.r(), setting.d(), setting.t(), setting.thresholds())?;
+    profile.set(setting.r, setting.d, setting.t, &setting.thresholds)?;
     Ok(profile)
 }
 

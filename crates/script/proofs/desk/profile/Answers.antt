@@ -1,5 +1,5 @@
 -- A setting that is granted leaves a profile with the numbers asked for, and there is but one.
-use Rattle.std.proofs.Common.{◌≡◌, true, sym, ◌∙◌}
+use Rattle.std.proofs.Common.{◌≡◌, true, sym, ap, ◌∙◌, rules}
 use Rattle.std.proofs.lemmas.Bool.{cond-true}
 use Rattle.scheme.specs.Setting.{lawful, numbers, chosen_numbers}
 use Rattle.script.specs.Chosen.{profile_of}
@@ -8,7 +8,9 @@ use Rattle.script.proofs.desk.profile.Goals as goal
 
 pub returns : goal.returns
 returns c =
-    let r = c.r.result in let d = c.d.result in let t = c.t.result in let ts = c.thresholds.result.now in
+    let s = c.args.setting.now in
+    let r = s.r in let d = s.d in let t = s.t in let ts = c.deref.result.now in
+    let same : ts ≡ s.thresholds.items = search rules in
     let h : lawful r d t ts ≡ true = sym c.in_ok-set.ensures.granted in
     let n = c.in_ok-set.ensures.numbers ∙ cond-true (lawful r d t ts) (chosen_numbers r d t ts) (numbers c.standard-profile.result) h in
-    profile_granted r d t ts h c.set.new.self n ∙ (λ i. profile_of (c.r.ensures i) (c.d.ensures i) (c.t.ensures i) (c.thresholds.ensures i))
+    profile_granted r d t ts h c.set.new.self n ∙ ap (profile_of r d t) same
