@@ -1,11 +1,13 @@
 -- Every input comes to its lines: at each byte, what has come of the line and what is still to come split to the same lines.
 use Rattle.std.proofs.Common.{◌≡◌, ℕ, zero, suc, ◌+◌, ◌-◌, ◌<◌, ◌≤◌, true, false, eqb, leb, List, [], ◌∷◌, ◌++◌, length, take, sym, refl, ap, ◌∙◌, ⊎_elim, arith}
+use Rattle.std.proofs.Math.Seq.{take-nil}
 use Rattle.std.specs.Option.{option_to_list}
 use Rattle.std.proofs.lemmas.List.{append-nil}
 use Rattle.std.proofs.lemmas.Bool.{cases_Bool, leb-true, leb-false, ne_eqb}
 use Rattle.lines.specs.Splitting.{split, ended}
 use Rattle.lines.specs.Feeding.{Numbered, Cut, closed, brought, numbered_from, ComesToItsLines}
-use Rattle.lines.proofs.Pieces.{glued, glued_onto, glued_none, split_some, split_onto}
+use Rattle.std.proofs.lemmas.List.Splits.{slice_split-cons_yes, slice_split-cons_no}
+use Rattle.lines.proofs.Pieces.{glued, glued_onto, glued_none, split_some}
 
 -- a splitter that c bytes have come to, at the line n with the bytes bs so far
 abbrev at_line : ℕ → ℕ → List ℕ → Cut
@@ -14,10 +16,6 @@ at_line c n bs = record { count = c; line = record { number = n; bytes = take 12
 -- the lines of what is to come
 abbrev rest_of : ℕ → ℕ → List ℕ → List ℕ → List Numbered
 rest_of c n bs input = numbered_from n (ended (glued bs (split 10 (take (65536 - c) input))))
-
-take_nil : (n : ℕ) → take {A = ℕ} n [] ≡ []
-take_nil zero = refl
-take_nil (suc n) = refl
 
 at_end : (c n : ℕ) (bs : List ℕ) → option_to_list (closed (at_line c n bs)).line ≡ numbered_from n (ended (glued bs ([] ∷ [])))
 at_end c n [] = refl
@@ -36,22 +34,16 @@ ended_more : (p : List ℕ) (ps : List (List ℕ)) → 0 < length ps → ended (
 ended_more p [] h = absurd (omega arith)
 ended_more p (q ∷ ps) h = refl
 
-take_one : (m : ℕ) (b : ℕ) (bs : List ℕ) → 0 < m → take m (b ∷ bs) ≡ b ∷ take (m - 1) bs
-take_one zero b bs h = absurd (omega arith)
-take_one (suc m) b bs h = let e : suc m - 1 ≡ m = omega arith in ap (λ k. b ∷ take k bs) (sym e)
-
 -- one more byte counts
 next_byte : (c b : ℕ) (input : List ℕ) → c < 65536 → take (65536 - c) (b ∷ input) ≡ b ∷ take (65536 - (c + 1)) input
-next_byte c b input h =
-    let e : 65536 - c - 1 ≡ 65536 - (c + 1) = omega arith in
-    take_one (65536 - c) b input (omega arith) ∙ ap (λ k. b ∷ take k input) e
+next_byte c b input h = let e : 65536 - c ≡ suc (65536 - (c + 1)) = omega arith in ap (λ k. take k (b ∷ input)) e
 
 -- a line feed ends the line
 feed_here : (c n : ℕ) (bs : List ℕ) (b : ℕ) (input : List ℕ) → c < 65536 → eqb b 10 ≡ true
     → rest_of c n bs (b ∷ input) ≡ record { number = n; bytes = take 121 bs } ∷ rest_of (c + 1) (n + 1) [] input
 feed_here c n bs b input h f =
     let t = take (65536 - (c + 1)) input in
-    let s : split 10 (b ∷ t) ≡ [] ∷ split 10 t = simp f in
+    let s = slice_split-cons_yes (λ x. eqb x 10) b t f in
     ap (λ xs. numbered_from n (ended (glued bs (split 10 xs)))) (next_byte c b input h)
     ∙ ap (λ ps. numbered_from n (ended (glued bs ps))) s
     ∙ ap (numbered_from n) (ended_more (bs ++ []) (split 10 t) (split_some 10 t))
@@ -64,7 +56,7 @@ byte_here : (c n : ℕ) (bs : List ℕ) (b : ℕ) (input : List ℕ) → c < 655
 byte_here c n bs b input h f =
     let t = take (65536 - (c + 1)) input in
     ap (λ xs. numbered_from n (ended (glued bs (split 10 xs)))) (next_byte c b input h)
-    ∙ ap (λ ps. numbered_from n (ended (glued bs ps))) (split_onto 10 b t f)
+    ∙ ap (λ ps. numbered_from n (ended (glued bs ps))) (slice_split-cons_no (λ x. eqb x 10) b t f)
     ∙ ap (λ ps. numbered_from n (ended ps)) (glued_onto bs b (split 10 t))
 
 -- past the limit no byte counts
@@ -75,7 +67,7 @@ none_counts c n bs input more h =
     ∙ sym (ap (λ m. numbered_from n (ended (glued bs (split 10 (take m more))))) z)
 
 comes : (c n : ℕ) (bs input : List ℕ) → brought (at_line c n bs) input ≡ rest_of c n bs input
-comes c n bs [] = at_end c n bs ∙ ap (λ t. numbered_from n (ended (glued bs (split 10 t)))) (sym (take_nil (65536 - c)))
+comes c n bs [] = at_end c n bs ∙ ap (λ t. numbered_from n (ended (glued bs (split 10 t)))) (sym (take-nil (65536 - c)))
 comes c n bs (b ∷ input) =
     ⊎_elim
     (λ (e : leb 65536 c ≡ true). simp e (comes c n bs input ∙ none_counts c n bs input (b ∷ input) (leb-true 65536 c e)))

@@ -3,7 +3,7 @@
 
 use arrayvec::ArrayVec;
 
-// The numbers of a profile as a line gives them. A line has room for no more than 59, so for 56 thresholds.
+// The numbers of a profile as a line gives them. A line has room for no more than 59 numbers, which leaves 56 for thresholds.
 #[derive(Clone, Drop)]
 pub struct Setting {
     pub r: u32,
@@ -12,7 +12,7 @@ pub struct Setting {
     pub thresholds: ArrayVec<u32, 56>,
 }
 
-// What an open box can be told to do.
+// What an open box can be told to do. This is not keybox's `Call`: a later call carries a slip, which may be used only once, and no line names one.
 #[derive(Clone, Copy)]
 pub enum Order {
     Give(u32, u32),

@@ -4,17 +4,19 @@
 ghost use Rattle.std.specs.Prelude.{◌≡◌, ◌^◌, ◌<◌, ◌≤◌, length, IfSome};
 ghost use Rattle.lines.specs.Digits.{decimal_digit, hexadecimal_digit, digit as digit_value, radix as radix_value, value as value_of, number as number_of, word as word_of};
 
+// There are these two bases and no more, so they are an enum: over a closure that reads a digit, the contract of `value` would have to say what it answers.
 #[derive(Clone, Copy)]
 enum Base {
     Decimal,
     Hexadecimal,
 }
 
+// Ranges of digits are literal cases by a rule of the project. `char::to_digit` would also take capital letters, which no number of a script has.
 pub fn dec(b: u8) -> Option<u32>
     ensures { result ≡ decimal_digit b }
 {
     match b {
-        b'0'..=b'9' => Some((b - b'0') as u32),
+        b'0'..=b'9' => Some(u32::from(b - b'0')),
         _ => None,
     }
 }
@@ -23,7 +25,7 @@ pub fn hex(b: u8) -> Option<u32>
     ensures { result ≡ hexadecimal_digit b }
 {
     match b {
-        b'a'..=b'f' => Some((b - b'a') as u32 + 10),
+        b'a'..=b'f' => Some(u32::from(b - b'a') + 10),
         _ => dec(b),
     }
 }
@@ -57,7 +59,7 @@ fn value(text: &[u8], base: Base) -> Option<u64>
     let mut v = 0;
     for b in text {
         let d = base.digit(*b)?;
-        v = v * base.radix() + d as u64;
+        v = v * base.radix() + u64::from(d);
     }
     Some(v)
 }

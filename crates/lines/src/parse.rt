@@ -42,6 +42,7 @@ fn next_number(rest: &[u8]) -> Option<(u32, &[u8])>
 }
 
 // The numbers that all parts write.
+#[tactic(auto, using(crate::proofs::Arguments::numbers_none))]
 fn numbers(mut rest: &[u8]) -> Option<ArrayVec<u32, 56>>
     requires { length rest.now ≤ 113 }
     ensures { option_map (λ ns. ns.items) result ≡ then (parts rest.now) numbers_of }

@@ -4,4 +4,7 @@ use Rattle.lines.specs.Digits.{value, value_after, radix}
 use Rattle.lines.proofs.digits.value.Given as goal
 
 abbrev pub invariant-loop-b : goal.invariant-loop-b
-invariant-loop-b l = (value_after l.base l.v (drop l.b-index l.text) ≡ value l.base l.text) × (l.v < radix l.base ^ l.b-index)
+invariant-loop-b l = record {
+  read : value_after l.base l.v (drop l.b-index l.text) ≡ value l.base l.text;
+  below : l.v < radix l.base ^ l.b-index;
+}
