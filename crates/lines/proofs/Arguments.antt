@@ -15,7 +15,7 @@ pub numbers_none : (xs : List ℕ) → 0 < length xs → None ≡ numbered (part
 numbers_none [] h e = absurd (omega arith)
 numbers_none (x ∷ xs) h e = stuck (eqb x 32) (split 32 xs) (split_some 32 xs) e
 
--- nor is it nothing more
+-- where there is a part, it is not the end
 ends : (q : Ask) (b : Bool) (ps : List (List ℕ)) → 0 < length ps → None ≡ then (cond b (Some ps) None) (alone q)
 ends q false ps h = refl
 ends q true [] h = absurd (omega arith)

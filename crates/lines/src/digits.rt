@@ -4,14 +4,14 @@
 ghost use Rattle.std.specs.Prelude.{◌≡◌, ◌^◌, ◌<◌, ◌≤◌, length, IfSome};
 ghost use Rattle.lines.specs.Digits.{decimal_digit, hexadecimal_digit, digit as digit_value, radix as radix_value, value as value_of, number as number_of, word as word_of};
 
-// There are these two bases and no more, so they are an enum: over a closure that reads a digit, the contract of `value` would have to say what it answers.
+// There are these two bases and no more. Were the reader of a digit a closure, the contract of `value` would have to say what it answers.
 #[derive(Clone, Copy)]
 enum Base {
     Decimal,
     Hexadecimal,
 }
 
-// Ranges of digits are literal cases by a rule of the project. `char::to_digit` would also take capital letters, which no number of a script has.
+// Ranges of digits are literal cases by a rule of the project. `char::to_digit` would also take capital letters, which are no digits of a script.
 pub fn dec(b: u8) -> Option<u32>
     ensures { result ≡ decimal_digit b }
 {

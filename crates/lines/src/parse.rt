@@ -22,6 +22,7 @@ fn until_space(text: &[u8]) -> (&[u8], &[u8])
 }
 
 // The first of the parts that stand behind a space each, and the rest after it.
+// The rest is handed on as a value: a reader that moves on by `&mut` would have to say where it stands after a `None` too.
 fn part(rest: &[u8]) -> Option<(&[u8], &[u8])>
     ensures value { option_map (λ x. (x.0.now, parts x.1.now)) result ≡ headed (parts rest.now) }
     ensures whole { IfSome result (λ x. length x.0.now + length x.1.now + 1 ≡ length rest.now) }
