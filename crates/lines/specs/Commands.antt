@@ -55,6 +55,10 @@ headed (Some (p ∷ ps)) = Some (p, Some ps)
 abbrev pub numbered : Option (List (List ℕ)) → Option (ℕ × Option (List (List ℕ)))
 numbered o = then (headed o) (λ x. then (number x.0) (λ n. Some (n, x.1)))
 
+-- a word as the first part, and the others
+abbrev pub worded : Option (List (List ℕ)) → Option (ℕ × Option (List (List ℕ)))
+worded o = then (headed o) (λ x. then (word x.0) (λ w. Some (w, x.1)))
+
 -- the numbers that some parts are, if all of them are numbers
 abbrev pub numbers : List (List ℕ) → Option (List ℕ)
 numbers [] = Some []

@@ -7,5 +7,6 @@ pub mod command;
 pub mod digits;
 pub mod line;
 pub mod parse;
+mod parts;
 mod split;
 pub mod splitter;

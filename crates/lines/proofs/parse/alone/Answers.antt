@@ -1,7 +1,6 @@
 -- A rest that is not empty has a part, or begins with no space.
-use Rattle.std.proofs.Common.{rules}
-use Rattle.lines.proofs.Arguments.{alone_none}
+use Rattle.lines.proofs.Arguments.{alone_at}
 use Rattle.lines.proofs.parse.alone.Goals as goal
 
-pub returns-in_default : goal.returns-in_default
-returns-in_default c = search (rules, alone_none)
+pub returns : goal.returns
+returns c = rw (c.then_some.ensures, c.is_empty.ensures) (alone_at c.args.order c.args.parts.rest.now)

@@ -6,7 +6,7 @@ use Rattle.std.proofs.lemmas.Iterator.{YieldsList-from_slice}
 use Rattle.std.proofs.lemmas.Iterator.Search.{position_from_yields_List}
 use Rattle.std.proofs.lemmas.List.Sums.{prefix_len-le-length}
 use Rattle.lines.proofs.Pieces.{is_space, headed_first}
-use Rattle.lines.proofs.parse.until_space.Goals as goal
+use Rattle.lines.proofs.parts.until_space.Goals as goal
 
 found_or_end : (n m : ℕ) → n ≤ m → unwrap_or (cond (ltb n m) (Some n) None) m ≡ n
 found_or_end n m h = grind arith
