@@ -1,10 +1,10 @@
 -- A rest that is not empty has a part, or begins with no space.
 use Rattle.std.proofs.Common.{◌≡◌, ℕ, ◌<◌, Bool, true, false, cond, eqb, List, [], ◌∷◌, length, Some, None, refl, arith, ne_eqb}
+use Rattle.std.specs.Bool.{◌==◌, then_some}
+use Rattle.std.specs.Option.{option_map}
 use Rattle.lines.specs.Digits.{then}
 use Rattle.lines.specs.Splitting.{split}
 use Rattle.lines.specs.Commands.{Ask, parts, numbered, numbers, ordered, request, alone}
-use Rattle.std.specs.Bool.{◌==◌, then_some}
-use Rattle.std.specs.Option.{option_map}
 use Rattle.lines.specs.declared.command.Order.{Order}
 use Rattle.lines.specs.declared.command.Command.TheVariants.{Order as Ordered}
 use Rattle.lines.proofs.Pieces.{split_some}
