@@ -8,7 +8,7 @@ use scheme::fault::Fault;
 use scheme::profile::Profile;
 
 // Opens a box over `words` with one threshold, gives it the positions and the public row, and seals.
-// Answers 0 for a grant, else the number of the refusal.
+// Answers 0 for a grant, else the number of the refusal: C has no `Result`.
 #[unsafe(no_mangle)]
 pub extern "C" fn sealed(
     words: &mut [u32],

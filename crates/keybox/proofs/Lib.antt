@@ -8,6 +8,5 @@ pub mod Lasts
 pub mod Driving
 pub mod Loans
 pub mod Marking
-pub mod Checking
 pub mod Sealing
 pub mod Working

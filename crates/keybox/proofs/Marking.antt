@@ -1,8 +1,5 @@
 -- A mark, and the first place at which a test holds, taken one place further.
-use Rattle.std.proofs.Common.{◌≡◌, ℕ, zero, suc, ◌+◌, ◌-◌, ◌/◌, ◌%◌, ◌^◌, ◌<◌, ◌≤◌, Bool, true, false, cond, not, ◌||◌, eqb, ltb, leb, List, [], ◌∷◌, ◌++◌, length, get_or, take, drop, Some, None, Option, sym, refl, ap, ◌∙◌, inl, inr, arith, length-drop, get_or-drop}
-use native.Mathlib.Nat.{div-eq_of_lt}
-use Rattle.std.proofs.lemmas.Nat.{le-div, pow_pos}
-use Rattle.std.proofs.lemmas.Bool.{cases_lt, eq-eqb, ne_eqb, lt-leb, le-leb, cond-false, not_from_true, not_from_false}
+use Rattle.std.proofs.Common.{◌≡◌, ℕ, zero, suc, ◌+◌, ◌-◌, ◌<◌, ◌≤◌, Bool, true, false, cond, ◌||◌, eqb, ltb, leb, List, [], ◌∷◌, ◌++◌, length, get_or, take, drop, Some, None, Option, sym, refl, ap, ◌∙◌, arith, length-drop, get_or-drop}
 use Rattle.std.proofs.lemmas.Bool.Decides.{nat_tests}
 use lib.Bits.{bit_or}
 use Rattle.std.specs.List.{range_with_len}
@@ -10,7 +7,6 @@ use Rattle.memory.specs.Access.{Seen, accessed, get}
 use Rattle.memory.proofs.Traces.{accessed_then}
 use Rattle.memory.proofs.Words.{part_at}
 use Rattle.rows.specs.Masks.{chosen}
-use Rattle.rows.specs.Rows.{width, has_tail}
 use Rattle.keybox.specs.Accesses.{read_accesses, pair_accesses}
 use Rattle.keybox.specs.Marks.{or_else}
 use Rattle.rows.specs.Fill.{part}
@@ -131,16 +127,3 @@ again_test ws vs a n i w d h e p q =
     let is = digit_of (earlier (drop a ws) w i) in
     let swap : again (part ws a n) i ≡ earlier (part ws a n) w i = ap (λ z. earlier (part ws a n) z i) same in
     cc
-
--- a word has a bit from place k on exactly where it is at least 2 ^ k
-pub tail_test : (r : ℕ) (ws : List ℕ) (a w : ℕ) → (r % 32 ≡ 0 → ⊥) → w ≡ get_or ws (a + (width r - 1)) 0
-    → not (eqb (w / 2 ^ (r % 32)) 0) ≡ has_tail r ws a
-tail_test r ws a w h e =
-    let some : eqb (r % 32) 0 ≡ false = ne_eqb (r % 32) 0 h in
-    let is : has_tail r ws a ≡ leb (2 ^ (r % 32)) w = cond-false (eqb (r % 32) 0) false (leb (2 ^ (r % 32)) (get_or ws (a + (width r - 1)) 0)) some ∙ ap (leb (2 ^ (r % 32))) (sym e) in
-    elim (cases_lt w (2 ^ (r % 32))) [
-      | inl l ↦ not_from_true _ (eq-eqb (w / 2 ^ (r % 32)) 0 (div-eq_of_lt l)) ∙ sym (is ∙ lt-leb (2 ^ (r % 32)) w l)
-      | inr l ↦
-          let up : 1 ≤ w / 2 ^ (r % 32) = le-div 1 w (2 ^ (r % 32)) (pow_pos (r % 32)) (omega arith) in
-          not_from_false _ (ne_eqb (w / 2 ^ (r % 32)) 0 (λ z. omega arith)) ∙ sym (is ∙ le-leb (2 ^ (r % 32)) w l)
-    ]

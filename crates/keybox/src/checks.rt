@@ -1,5 +1,6 @@
 // The checks of the words of IN. Each reads every word that it could need, whatever the words are,
 // so that its accesses tell nothing of the words; the one branch on its outcome is its caller's.
+// Two loops and not one over a closure that tests a word: a closure that reads the memory would have to promise its accesses too.
 
 ghost use Rattle.std.specs.Prelude.{◌≡◌, ◌+◌, ◌-◌, ◌<◌, ◌≤◌, [], ◌∷◌, length, drop, if◌then◌else◌, None, ◌==◌, nat_le, slice_index};
 ghost use Rattle.std.specs.List.{range_with_len};
@@ -15,35 +16,6 @@ use crate::mark::Mark;
 use memory::Memory;
 use rows::masks::{Choice, One};
 use scheme::profile::Profile;
-
-impl Mark {
-    fn none() -> Mark
-        ensures { marked result ≡ None }
-    {
-        Mark {
-            found: Choice::no(),
-            place: 0,
-        }
-    }
-
-    // Notes a place where the choice is yes, unless one was noted before.
-    fn note(&mut self, here: Choice, place: u32)
-        ensures { marked self.new ≡ or_else (marked self.old) (when (here.digit == 1) place) }
-    {
-        self.place = self.found.select(self.place, place);
-        self.found = self.found.or(here);
-    }
-
-    fn outcome(self) -> Option<u32>
-        ensures { result ≡ marked self }
-    {
-        if self.found.reveal() {
-            Some(self.place)
-        } else {
-            None
-        }
-    }
-}
 
 // The first of the n places of IN whose word is not below a limit.
 pub(crate) fn first_beyond<M: Memory>(m: &mut M, n: u32, limit: u32, one: One) -> Option<u32>

@@ -14,6 +14,7 @@ use scheme::fault::BoxFault;
 use scheme::profile::Profile;
 
 // unit: the box's number. loaded: whether a key is loaded. out: whether a slip is out, that is, an unsealed row may lie in OUT.
+// They are flags and no options, since what they tell of lies in the memory.
 #[derive(Drop)]
 pub struct KeyBox<M: Memory> {
     pub(crate) profile: Profile,

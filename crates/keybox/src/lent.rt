@@ -1,5 +1,6 @@
 // A box over a memory that its caller lends and knows afterwards: opened, driven and let go in one function.
 // Each call waits for the grant of the one before it; the first refusal is the answer.
+// The profile and the unit number go to `KeyBox::open` as they come, and nowhere else.
 
 ghost use Rattle.std.specs.Prelude.{◌≡◌, take, drop, Ok};
 ghost use Rattle.keybox.specs.declared.call.Grant.TheVariants.{Done};

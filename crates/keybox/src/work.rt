@@ -1,4 +1,5 @@
 // What calls do with WORK and OUT: they leave WORK zero, and publish a row that they made there.
+// Each takes the memory and the profile apart and asks that the zones fit. A type that held both would have to say of every call that the profile stays.
 
 ghost use Rattle.std.specs.Prelude.{◌≡◌, ◌<◌, ◌≤◌};
 ghost use Rattle.memory.specs.Access.{accessed};

@@ -19,10 +19,6 @@ module _ (b n : ℕ) (s : Seen) (a p : ℕ) (h : a < length (window b n s).words
   within : a < spanned b n (length s.words)
   within = omega (arith, length_window b n s)
 
-  -- it is an address of the memory below
-  pub place_in : p < length s.words
-  place_in = omega (arith, length-take (spanned b n (length s.words)) (drop b s.words), length-drop b s.words)
-
   -- a put there is a put of the window, and leaves the hidden words
   pub place_put : (t : Seen) (w : ℕ) → t ≡ accessed s (put p ∷ []) (set s.words p w) → window b n t ≡ accessed (window b n s) (put a ∷ []) (set (window b n s).words a w)
   place_put t w d =

@@ -1,6 +1,6 @@
 -- Digits and the masks made of them. A mask is all ones or all zeros, and leaves the first or the second of two numbers:
 -- the one law that each choice without a branch rests on, over any width.
-use Rattle.std.proofs.Common.{◌≡◌, ℕ, ◌-◌, ◌/◌, ◌%◌, ◌^◌, ◌<◌, sym, ap, ◌∙◌, mod-eq_of_lt}
+use Rattle.std.proofs.Common.{◌≡◌, ℕ, ◌-◌, ◌^◌, ◌<◌, sym, ap, ◌∙◌, mod-eq_of_lt}
 use lib.Bits.{bit_and, bit_xor, and_comm, and_mask, xor_lt, xor_comm, xor_assoc, xor_self, xor_zero_r}
 
 -- a mask of ones takes the first number, and one of zeros the second
@@ -12,7 +12,3 @@ masked_all k a b mask ha hb e =
 
 pub masked_none : (a b mask : ℕ) → mask ≡ 0 → bit_xor b (bit_and mask (bit_xor a b)) ≡ b
 masked_none a b mask e = ap (λ m. bit_xor b (bit_and m (bit_xor a b))) e ∙ xor_zero_r b
-
--- digit e of a number, cut out by a one
-pub digit_is : (t e one : ℕ) → one ≡ 1 → bit_and (t / 2 ^ e) one ≡ t / 2 ^ e % 2
-digit_is t e one h = ap (bit_and (t / 2 ^ e)) h ∙ and_mask (t / 2 ^ e) 1

@@ -46,9 +46,6 @@ pub record Ahead (s t : Seen) (n base d k e : ℕ) : Type 0 where
   pub left : accessed t (stages_accesses n base e) (stages_words n base d e t.words) ≡ accessed s (stages_accesses n base k) (stages_words n base d k s.words)
   pub long : size t ≡ size s
 
-pub ahead_all : (s : Seen) (n base d k : ℕ) → Ahead s s n base d k k
-ahead_all s n base d k = record { left = refl; long = refl }
-
 pub ahead_less : (s t u : Seen) (n base d k e e' v digit : ℕ) → e ≡ suc e' → v ≡ 2 ^ e' → digit ≡ d / 2 ^ e' % 2 → Ahead s t n base d k e
     → u ≡ accessed t (stage_accesses base v (reach n v)) (filled t.words base (staged t.words base v digit) (reach n v))
     → Ahead s u n base d k e'

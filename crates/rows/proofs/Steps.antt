@@ -145,10 +145,6 @@ room_two (Either a b) n = omega arith
 room_holds : (source : Source) (n : ℕ) → n ≤ room source * n
 room_holds source n = omega (arith, room_two source n)
 
--- a row is at most as long as the words
-pub width_small : (n : ℕ) (p : Plan) (ws : List ℕ) → length ws ≤ 65536 → Fits n p ws → width p.r ≤ 65536
-width_small n p ws limit f = omega (arith, f.space, room_holds p.source (width p.r))
-
 -- the result lies apart from the row that is added
 pub row_apart : (n : ℕ) (p : Plan) (ws : List ℕ) → Fits n p ws → Apart p.scratch (width p.r) p.into (n * width p.r)
 row_apart n p ws f =

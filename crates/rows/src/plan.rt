@@ -1,5 +1,6 @@
 // What a sum of rotated rows is told: where its positions, its rows and its result lie.
 // All of it is public; only the words that lie there are secret.
+// Which way and which row are enums and no closures, since the accesses of a sum are worked out from them.
 
 ghost use Rattle.std.specs.Prelude.{◌≡◌, ◌*◌, ◌≤◌};
 ghost use Rattle.rows.specs.Rows.{width as words_taken};

@@ -1,5 +1,6 @@
 // The sum of rotated rows: for each position that lies in the memory a row is rotated and added, lane by lane.
 // One text for every kind of lanes, so that syndromes and counts are the same sum.
+// A count of rotations is a number and no type: how many more still fit is asked for another number at each function.
 
 ghost use Rattle.std.specs.Prelude.{◌≡◌, ◌+◌, ◌*◌, ◌^◌, ◌<◌, ◌≤◌, length};
 ghost use Rattle.memory.specs.Access.{accessed};

@@ -6,6 +6,7 @@ ghost use Rattle.std.specs.Prelude.{◌≡◌, ◌≤◌};
 ghost use Rattle.scheme.specs.Zones.{W, B, in_size, key_at, out_at, out_size, work_at, work_size, N};
 
 use crate::profile::Profile;
+use rows::row::width;
 
 impl Profile {
     // How many words a row takes.
@@ -13,7 +14,7 @@ impl Profile {
         ensures value { result ≡ W self.now }
         ensures bound { (1 ≤ result) × (result ≤ 500) }
     {
-        self.r.div_ceil(32)
+        width(self.r)
     }
 
     // The place of IN where a row is read.

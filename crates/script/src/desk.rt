@@ -28,7 +28,7 @@ pub struct Desk<M: Memory> {
     device: Option<KeyBox<M>>,
 }
 
-// The profile that a setting asks for.
+// The profile that a setting asks for. It is a function and no `TryFrom`, since neither type is this crate's.
 fn profile(setting: &Setting) -> Result<Profile, ProfileFault>
     ensures { result ≡ profile_from (listed setting.now) }
 {

@@ -1,14 +1,9 @@
-use Rattle.std.proofs.Common.{◌+◌, ◌≤◌, length, ap, inr, arith}
+use Rattle.std.proofs.Common.{◌+◌, ◌≤◌, length, ap, arith}
 use Rattle.memory.proofs.Words.{length_over}
 use Rattle.rows.proofs.Loops.{size}
 use Rattle.scheme.specs.Zones.{W, work_row}
 use Rattle.keybox.proofs.Working.{row_inside, published_is}
 use Rattle.keybox.proofs.work.publish.Goals as goal
-
-pub copy-requires : goal.copy-requires
-copy-requires g c =
-    let inside = row_inside c.args.profile.now c.args.i c.requires.row in
-    record { source = omega arith; space = omega arith; apart = inr (omega arith) }
 
 pub zero-requires : goal.zero-requires
 zero-requires g c =

@@ -3,7 +3,7 @@ use Rattle.std.proofs.Common.{ℕ, ◌-◌, refl, ap, arith}
 use Rattle.std.proofs.lemmas.Nat.{one_shl}
 use Rattle.rows.proofs.Loops.{size}
 use Rattle.rows.proofs.Filling.{length_filled}
-use Rattle.rows.proofs.Stages.{ahead_all, ahead_less}
+use Rattle.rows.proofs.Stages.{ahead_less}
 use Rattle.rows.proofs.Turning.{row_tail, digits_needed, turned_all}
 use Rattle.rows.proofs.rotate.rotate.Goals as goal
 
@@ -16,9 +16,6 @@ lay_twice-requires g c = record {
   apart = rw c.width-n.ensures c.requires.fits.apart;
   tail = rw c.width-n.ensures (row_tail _ _ _ (omega arith) c.requires.fits.tail);
 }
-
-pub loop-e-init : goal.loop-e-init
-loop-e-init g c = ahead_all _ _ _ _ _
 
 pub stage-requires : goal.stage-requires
 stage-requires g c =

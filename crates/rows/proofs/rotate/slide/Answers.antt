@@ -1,8 +1,6 @@
 -- Digit by digit, the two words are shifted by the amount's lowest digits.
-use Rattle.std.proofs.Common.{◌≡◌, ℕ, ◌+◌, ◌*◌, ◌/◌, ◌%◌, ◌^◌, sym, ap, ◌∙◌, div-one, arith}
-use native.Mathlib.Nat.{mod-one}
+use Rattle.std.proofs.Common.{◌≡◌, ℕ, ◌+◌, ◌*◌, ◌/◌, ◌%◌, ◌^◌, sym, ap, ◌∙◌, arith}
 use Rattle.std.proofs.lemmas.Nat.{and_mask, mod-pow-add, shr-shr}
-use Rattle.rows.proofs.Numbers.{carry_is}
 use Rattle.rows.proofs.rotate.slide.Goals as goal
 
 -- the lowest k digits of s, and one more
@@ -10,11 +8,6 @@ further : (y s k : ℕ) → y / 2 ^ (s % 2 ^ k) / 2 ^ (s / 2 ^ k % 2 * 2 ^ k) �
 further y s k =
     let e : s % 2 ^ (k + 1) ≡ s % 2 ^ k + s / 2 ^ k % 2 * 2 ^ k = ap (λ z. s % 2 ^ z) (omega arith) ∙ (mod-pow-add s 1 k ∙ omega arith) in
     shr-shr y (s % 2 ^ k) (s / 2 ^ k % 2 * 2 ^ k) ∙ ap (λ z. y / 2 ^ z) (sym e)
-
-pub loop-k-init : goal.loop-k-init
-loop-k-init c =
-    let y = c.args.hi * 2 ^ 32 + c.args.lo in
-    carry_is c.args.hi 32 c.args.lo (omega arith) (omega arith) (omega arith) ∙ (sym (div-one y) ∙ ap (λ (z : ℕ). y / 2 ^ z) (sym (mod-one c.args.s)))
 
 pub loop-k-preserved : goal.loop-k-preserved
 loop-k-preserved c = let e = further (c.args.hi * 2 ^ 32 + c.args.lo) c.args.s c.loop-k.k in cc

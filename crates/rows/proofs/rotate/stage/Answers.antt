@@ -1,9 +1,8 @@
 -- Turn by turn, the words below are chosen, and those from there on are as they were.
-use Rattle.std.proofs.Common.{◌≡◌, ap, arith}
+use Rattle.std.proofs.Common.{ap, arith}
 use Rattle.rows.proofs.Loops.{size}
 use Rattle.rows.proofs.Filling.{length_filled}
 use Rattle.rows.proofs.Stages.{stage_none, stage_more}
-use Rattle.rows.specs.Turn.{reach}
 use Rattle.rows.proofs.rotate.stage.Goals as goal
 
 pub loop-w-init : goal.loop-w-init
@@ -23,8 +22,3 @@ pub loop-w-preserved : goal.loop-w-preserved
 loop-w-preserved g c =
     stage_more _ _ _ _ _ _ _ _ _ _ _ _ c.loop-w.invariant c.get_within-far.ensures.did c.get_within-far.ensures.value
     c.get_within-near.ensures.did c.get_within-near.ensures.value c.select.ensures c.put_within.ensures.did
-
-pub returns : goal.returns
-returns g c =
-    let e : c.loop-w.w ≡ reach c.args.n c.args.v = omega arith in
-    record { did = rw e at c.loop-w.invariant }
