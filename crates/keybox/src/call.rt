@@ -1,6 +1,7 @@
 // The calls of a box and their answers as values, so that a list of calls can be worked off.
 use scheme::fault::BoxFault;
 
+#[derive(Clone, Copy)]
 pub enum Call {
     Give(u32, u32),
     Take(u32),

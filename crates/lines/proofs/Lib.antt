@@ -2,3 +2,4 @@ pub mod Numerals
 pub mod Pieces
 pub mod Arguments
 pub mod Coming
+pub mod Profiles

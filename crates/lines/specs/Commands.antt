@@ -6,7 +6,7 @@ use Rattle.lines.specs.declared.command.Setting.{Setting}
 use Rattle.lines.specs.declared.command.Command.{Command}
 use Rattle.lines.specs.declared.command.Command.TheVariants.{Set, Order as Ordered}
 use Rattle.lines.specs.declared.command.Order.{Order}
-use Rattle.lines.specs.declared.command.Order.TheVariants.{Give, Take, Seal, Wipe, Hear}
+use Rattle.lines.specs.declared.command.Order.TheVariants.{Call as OnBox, Hear}
 use Rattle.lines.specs.Digits.{then, number, word}
 use Rattle.lines.specs.Splitting.{split}
 
@@ -30,10 +30,7 @@ listed s = s.r ∷ s.d ∷ s.t ∷ s.thresholds.items
 
 -- what an order asks for, and a command
 abbrev pub ordered : Order → Ask
-ordered (Give i w) = call (calls.Give i w)
-ordered (Take i) = call (calls.Take i)
-ordered Seal = call calls.Seal
-ordered Wipe = call calls.Wipe
+ordered (OnBox c) = call c
 ordered Hear = hear
 
 abbrev pub request : Command → Request

@@ -2,6 +2,7 @@
 // A line names no slip and no memory, so a command is plain numbers.
 
 use arrayvec::ArrayVec;
+use keybox::call::Call;
 
 // The numbers of a profile as a line gives them. A line has room for no more than 59 numbers, which leaves 56 for thresholds.
 #[derive(Clone, Drop)]
@@ -12,13 +13,10 @@ pub struct Setting {
     pub thresholds: ArrayVec<u32, 56>,
 }
 
-// What an open box can be told to do. This is not keybox's `Call`: a later call carries a slip, which may be used only once, and no line names one.
+// What an open box can be told: a call, or to hear.
 #[derive(Clone, Copy)]
 pub enum Order {
-    Give(u32, u32),
-    Take(u32),
-    Seal,
-    Wipe,
+    Call(Call),
     Hear,
 }
 

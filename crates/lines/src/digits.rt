@@ -4,7 +4,7 @@
 ghost use Rattle.std.specs.Prelude.{◌≡◌, ◌^◌, ◌<◌, ◌≤◌, length, IfSome};
 ghost use Rattle.lines.specs.Digits.{decimal_digit, hexadecimal_digit, digit as digit_value, radix as radix_value, value as value_of, number as number_of, word as word_of};
 
-// There are these two bases and no more. Were the reader of a digit a closure, the contract of `value` would have to say what it answers.
+// There are these two bases and no more: a trait with a type for each would say the same in more lines.
 #[derive(Clone, Copy)]
 enum Base {
     Decimal,

@@ -1,8 +1,9 @@
 // The lines of a script: the input taken apart into lines, and a line into what it asks for.
-// Nothing here knows a box; what is asked for is done elsewhere.
+// What is asked for is done elsewhere: nothing here has a box.
 
 #![tactic(auto)]
 
+mod chosen;
 pub mod command;
 pub mod digits;
 pub mod line;

@@ -9,6 +9,7 @@ ghost use Rattle.lines.specs.declared.command.Command.TheVariants.{Set};
 
 use crate::command::{Command, Order, Setting};
 use crate::parts::Parts;
+use keybox::call::Call;
 
 // r, d, t and the thresholds.
 fn setting(mut parts: Parts) -> Option<Setting>
@@ -39,7 +40,7 @@ fn giving(mut parts: Parts) -> Option<Command>
 {
     let place = parts.number()?;
     let given = parts.word()?;
-    alone(parts, Order::Give(place, given))
+    alone(parts, Order::Call(Call::Give(place, given)))
 }
 
 // A place.
@@ -47,7 +48,7 @@ fn taking(mut parts: Parts) -> Option<Command>
     ensures { option_map request result ≡ then (parts_of parts.entry.rest.now) taking_of }
 {
     let place = parts.number()?;
-    alone(parts, Order::Take(place))
+    alone(parts, Order::Call(Call::Take(place)))
 }
 
 // What a letter asks for with the parts after it. A P counts in the first line alone.
@@ -60,8 +61,8 @@ fn asked(letter: u8, parts: Parts, first: bool) -> Option<Command>
         b'P' => Some(Command::Set(setting(parts)?)),
         b'G' => giving(parts),
         b'T' => taking(parts),
-        b'S' => alone(parts, Order::Seal),
-        b'W' => alone(parts, Order::Wipe),
+        b'S' => alone(parts, Order::Call(Call::Seal)),
+        b'W' => alone(parts, Order::Call(Call::Wipe)),
         b'H' => alone(parts, Order::Hear),
         _ => None,
     }

@@ -7,9 +7,22 @@ ghost use Rattle.lines.specs.Feeding.{line_of, cut_of, pushed, closed, completed
 
 use crate::line::Line;
 use crate::splitter::Splitter;
+use std::alloc::AllocError;
 use std::mem;
 
 const LIMIT: u32 = 65536;
+
+// By hand, since a derived one knows nothing of what is said of the fields.
+impl Clone for Splitter {
+    ghost is_clone = { λ s t. cut_of t ≡ cut_of s };
+
+    fn clone(&self) -> Result<Splitter, AllocError> {
+        Ok(Splitter {
+            count: self.count,
+            line: self.line.clone()?,
+        })
+    }
+}
 
 impl Splitter {
     pub fn new() -> Splitter

@@ -34,11 +34,13 @@ impl<M: Memory> Memory for Scrambler<M> {
 
     ghost limited = { λ s. Prim.search (rules, length_padded s.seed 0 (M.Memory.seen s.below).words, M.Memory.limited s.below) };
 
+    #[tactic(auto, using(crate::specs::Layers::length_padded))]
     fn size(&self) -> u32 {
         self.below.size()
     }
 
     // Past the size the access is passed on for its trail, and the 0 that it answers is under no pad.
+    #[tactic(auto, using(crate::specs::Layers::length_padded, crate::proofs::Pads::scrambler_get))]
     fn get(&mut self, a: u32) -> u32 {
         if a < self.below.size() {
             self.get_within(a)
@@ -47,16 +49,19 @@ impl<M: Memory> Memory for Scrambler<M> {
         }
     }
 
+    #[tactic(auto, using(crate::proofs::Pads::scrambler_put))]
     fn put(&mut self, a: u32, w: u32) {
         let pad = self.pad_at(a);
         self.below.put(a, w ^ pad);
     }
 
+    #[tactic(auto, using(crate::specs::Layers::length_padded, crate::proofs::Pads::padded_at, crate::proofs::Pads::scrambler_get))]
     fn get_within(&mut self, a: u32) -> u32 {
         let pad = self.pad_at(a);
         self.below.get_within(a) ^ pad
     }
 
+    #[tactic(auto, using(crate::specs::Layers::length_padded, crate::proofs::Pads::scrambler_put))]
     fn put_within(&mut self, a: u32, w: u32) {
         let pad = self.pad_at(a);
         self.below.put_within(a, w ^ pad);

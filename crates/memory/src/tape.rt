@@ -60,11 +60,7 @@ impl Memory for Tape {
 
     fn get(&mut self, a: u32) -> u32 {
         self.step(Kind::Get, a);
-        if (a as usize) < SIZE {
-            self.words[a as usize]
-        } else {
-            0
-        }
+        self.words.get(a as usize).copied().unwrap_or(0)
     }
 
     fn put(&mut self, a: u32, w: u32) {

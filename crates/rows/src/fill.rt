@@ -35,18 +35,18 @@ pub fn copy<M: Memory>(m: &mut M, from: u32, to: u32, n: u32)
     }
 }
 
-// Writes to `to` the `n` words at `a` where the digit is 0, and those at `b` where it is 1. Both are read, word by word.
-pub fn pick<M: Memory>(m: &mut M, digit: Choice, a: u32, b: u32, to: u32, n: u32)
+// Writes to `to` the `n` words at `a` where the choice is no, and those at `b` where it is yes. Both are read, word by word.
+pub fn pick<M: Memory>(m: &mut M, choice: Choice, a: u32, b: u32, to: u32, n: u32)
     requires first { a + n ≤ length (M.Memory.seen m.old).words }
     requires second { b + n ≤ length (M.Memory.seen m.old).words }
     requires space { to + n ≤ length (M.Memory.seen m.old).words }
     requires first_apart { Apart a n to n }
     requires second_apart { Apart b n to n }
-    ensures did { M.Memory.seen m.new ≡ accessed (M.Memory.seen m.old) (pick_accesses a b to n) (over (M.Memory.seen m.old).words to (part (M.Memory.seen m.old).words (chosen digit.digit b a) n)) }
+    ensures did { M.Memory.seen m.new ≡ accessed (M.Memory.seen m.old) (pick_accesses a b to n) (over (M.Memory.seen m.old).words to (part (M.Memory.seen m.old).words (chosen choice.digit b a) n)) }
 {
     for w in 0..n {
         let first = m.get_within(a + w);
         let second = m.get_within(b + w);
-        m.put_within(to + w, digit.select(second, first));
+        m.put_within(to + w, choice.select(second, first));
     }
 }

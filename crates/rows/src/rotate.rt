@@ -68,17 +68,17 @@ fn lay_twice<M: Memory>(m: &mut M, r: u32, from: u32, to: u32, n: u32)
     m.put_within(to + q + q + 1, (top >> 32) as u32);
 }
 
-// Shifts what is left of a row of `n` words, laid twice at `base`, down by `v` words where the digit is 1.
+// Shifts what is left of a row of `n` words, laid twice at `base`, down by `v` words where the choice is yes.
 // It writes as many words as what follows can read. The word further up is read first, which lets the compiler take several at once.
-fn stage<M: Memory>(m: &mut M, n: u32, base: u32, v: u32, digit: Choice)
+fn stage<M: Memory>(m: &mut M, n: u32, base: u32, v: u32, choice: Choice)
     requires space { base + 2 * n ≤ length (M.Memory.seen m.old).words }
     requires by { v < n }
-    ensures did { M.Memory.seen m.new ≡ accessed (M.Memory.seen m.old) (stage_accesses base v (reach n v)) (filled (M.Memory.seen m.old).words base (staged (M.Memory.seen m.old).words base v digit.digit) (reach n v)) }
+    ensures did { M.Memory.seen m.new ≡ accessed (M.Memory.seen m.old) (stage_accesses base v (reach n v)) (filled (M.Memory.seen m.old).words base (staged (M.Memory.seen m.old).words base v choice.digit) (reach n v)) }
 {
     for w in 0..(n + v).min(2 * n - v) {
         let far = m.get_within(base + w + v);
         let near = m.get_within(base + w);
-        m.put_within(base + w, digit.select(far, near));
+        m.put_within(base + w, choice.select(far, near));
     }
 }
 

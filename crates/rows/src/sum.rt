@@ -12,7 +12,6 @@ use super::fill::{pick, zero};
 use super::lanes::Lanes;
 use super::masks::One;
 use super::plan::{Plan, Source};
-use super::position::{apart, as_position, turn};
 use super::rotate::rotate;
 use memory::Memory;
 
@@ -25,12 +24,12 @@ fn choose<M: Memory>(m: &mut M, plan: Plan, position: u32, one: One) -> (u32, u3
     ensures did { M.Memory.seen m.new ≡ accessed (M.Memory.seen m.old) (choice_accesses plan.r plan.source plan.scratch) (chosen_words plan.r plan.source plan.scratch position (M.Memory.seen m.old).words) }
 {
     match plan.source {
-        Source::One(a) => (a, as_position(plan.r, position, one)),
+        Source::One(a) => (a, one.as_position(plan.r, position)),
         Source::Either(a, b) => {
             let to = plan.scratch + 2 * plan.width();
-            let (half, index) = apart(plan.r, position, one);
+            let (half, index) = one.apart(plan.r, position);
             pick(m, half, a, b, to, plan.width());
-            (to, as_position(plan.r, index, one))
+            (to, one.as_position(plan.r, index))
         }
     }
 }
@@ -47,7 +46,7 @@ fn step<L: Lanes + Drop, M: Memory>(m: &mut M, plan: Plan, i: u32, count: u32) -
     let one = One::hidden(plan.r);
     let word = m.get_within(plan.at + i);
     let (from, position) = choose(m, plan, word, one);
-    let by = turn(plan.r, plan.direction, position, one);
+    let by = one.turn(plan.r, plan.direction, position);
     let next = rotate(m, plan.r, from, plan.scratch, by, count);
     add_row::<L, M>(m, plan.scratch, plan.into, plan.width());
     next

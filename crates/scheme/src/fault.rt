@@ -14,7 +14,7 @@ pub enum Layer {
     Line,
 }
 
-// What a refusal tells. The place is that of the first word that offends, and 0 where none does.
+// What a refusal tells. The place is that of the first word that offends. Where none does it is 0 and no `None`, as every refusal is told with a place.
 #[derive(Clone, Copy, Debug, PartialEq, Eq)]
 pub struct Told {
     pub number: u32,

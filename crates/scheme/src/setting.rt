@@ -1,4 +1,5 @@
 // Which numbers make a profile. A setting outside the ranges is refused, and leaves the profile that was there.
+// The four numbers of a setting come apart and are judged apart: a struct for them would be made for one call and taken apart in it.
 
 ghost use Rattle.std.specs.Prelude.{◌≡◌, ◌*◌, ◌≤◌, ◌&&◌, length, is_ok, if◌then◌else◌, nat_le};
 ghost use Rattle.scheme.specs.Setting.{all_within, lawful, entries as padded_entries, numbers, chosen_numbers, first_numbers};

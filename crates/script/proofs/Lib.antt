@@ -1,4 +1,3 @@
 pub mod Writing
-pub mod Profiles
 pub mod Speaking
 pub mod Worked

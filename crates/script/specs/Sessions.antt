@@ -16,7 +16,7 @@ use Rattle.script.specs.declared.grant.LineGrant.TheVariants.{Call as of_call, H
 use Rattle.script.specs.declared.fault.LineFault.{LineFault}
 use Rattle.script.specs.declared.fault.LineFault.TheVariants.{Malformed, NoProfile, Profile as of_profile, Box as of_box}
 use Rattle.script.specs.declared.desk.Desk as code
-use Rattle.script.specs.Chosen.{profile_of}
+use Rattle.lines.specs.Chosen.{profile_of}
 use Rattle.lines.specs.Commands.{Ask, call, hear, Request, set, ask, meaning}
 use Rattle.lines.specs.Feeding.{Numbered}
 

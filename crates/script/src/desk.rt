@@ -2,53 +2,40 @@
 // A line that is malformed, or has no box to ask, touches neither.
 
 ghost use Rattle.std.specs.Prelude.{◌≡◌, Some};
-ghost use Rattle.script.specs.Chosen.{profile_from};
-ghost use Rattle.lines.specs.Commands.{listed, request, ordered};
+ghost use Rattle.lines.specs.Commands.{request, ordered};
 ghost use Rattle.lines.specs.declared.command.Command.TheVariants.{Set};
 ghost use Rattle.lines.specs.Feeding.{line_of};
 ghost use Rattle.script.specs.Sessions.{device_of, desk_of, waiting, obeys, serves, works, works_off};
 
 use crate::fault::LineFault;
 use crate::grant::LineGrant;
-use keybox::call::{Call, Grant};
+use keybox::call::Grant;
 use keybox::device::KeyBox;
 use lines::command::{Command, Order, Setting};
 use lines::line::Line;
 use lines::parse::parse;
 use memory::{HeardMemory, Memory};
-use scheme::fault::{BoxFault, ProfileFault};
+use scheme::fault::BoxFault;
 use scheme::profile::Profile;
 
 const UNIT: u32 = 1;
 
-// Two options and no enum: what a lent desk holds can be moved out only if a value is left in its place, and `take` leaves None.
+// The memory until a box is open, and then the box. They are two options and no enum: what a lent desk holds can be moved out only if a value is left in its place,
+// as the `None` that `take` leaves, and an enum would need a third state for that moment.
 #[derive(Drop)]
 pub struct Desk<M: Memory> {
     memory: Option<M>,
     device: Option<KeyBox<M>>,
 }
 
-// The profile that a setting asks for. It is a function and no `TryFrom`, since neither type is this crate's.
-fn profile(setting: &Setting) -> Result<Profile, ProfileFault>
-    ensures { result ≡ profile_from (listed setting.now) }
-{
-    let mut profile = Profile::standard();
-    profile.set(setting.r, setting.d, setting.t, &setting.thresholds)?;
-    Ok(profile)
-}
-
 // Does on a box what it is told.
 fn obey<M: HeardMemory>(device: &mut KeyBox<M>, order: Order) -> Result<LineGrant, BoxFault>
     ensures { record { answer = result; after = device_of M.Memory device.new } ≡ obeys M.HeardMemory.told (device_of M.Memory device.old) (ordered order) }
 {
-    let call = match order {
-        Order::Give(place, word) => Call::Give(place, word),
-        Order::Take(place) => Call::Take(place),
-        Order::Seal => Call::Seal,
-        Order::Wipe => Call::Wipe,
-        Order::Hear => return Ok(LineGrant::Heard(device.hear())),
-    };
-    Ok(LineGrant::Call(device.call(call)?))
+    match order {
+        Order::Call(call) => Ok(LineGrant::Call(device.call(call)?)),
+        Order::Hear => Ok(LineGrant::Heard(device.hear())),
+    }
 }
 
 impl<M: HeardMemory + Drop> Desk<M> {
@@ -65,7 +52,7 @@ impl<M: HeardMemory + Drop> Desk<M> {
     fn open(&mut self, setting: Setting) -> Result<LineGrant, LineFault>
         ensures { record { answer = result; after = desk_of M.Memory self.new } ≡ works_off M.HeardMemory.told (desk_of M.Memory self.old) (Some (request (Set setting))) }
     {
-        let profile = profile(&setting)?;
+        let profile = Profile::try_from(&setting)?;
         let memory = self.memory.take().ok_or(LineFault::Malformed)?;
         self.device = Some(KeyBox::open(profile, UNIT, memory));
         Ok(LineGrant::Call(Grant::Done))

@@ -1,5 +1,5 @@
 // The bytes of a printed line, written one part after the other.
-// Every part has a bound, and together they fit, so printing cannot fail.
+// Every part has a bound of its own, which its function asks for, and together they fit, so printing cannot fail.
 // `write!` was tried in place of the parts: a clause has the bytes that it wrote if it answers `Ok`, and none has that it does where they fit.
 
 ghost use Rattle.std.specs.Prelude.{◌≡◌, ◌+◌, ◌<◌, ◌≤◌, [], ◌++◌, length, codes, decimal};

@@ -5,7 +5,7 @@ use Rattle.rows.proofs.Loops.{size, picked_none, picked_more}
 use Rattle.rows.proofs.fill.pick.Goals as goal
 
 pub loop-w-init : goal.loop-w-init
-loop-w-init g c = picked_none _ c.args.digit.digit _ _ _
+loop-w-init g c = picked_none _ c.args.choice.digit _ _ _
 
 pub get_within-first-requires : goal.get_within-first-requires
 get_within-first-requires g c = omega (arith, simp length_over at (ap size c.loop-w.invariant))
@@ -20,4 +20,4 @@ put_within-requires g c =
 
 pub loop-w-preserved : goal.loop-w-preserved
 loop-w-preserved g c =
-    picked_more _ _ _ _ _ c.args.digit.digit _ _ _ _ _ _ _ _ c.requires.first_apart c.requires.second_apart c.loop-w-test.true c.requires.first c.requires.second c.loop-w.invariant c.get_within-first.ensures.did c.get_within-first.ensures.value c.get_within-second.ensures.did c.get_within-second.ensures.value c.select.ensures c.put_within.ensures.did
+    picked_more _ _ _ _ _ c.args.choice.digit _ _ _ _ _ _ _ _ c.requires.first_apart c.requires.second_apart c.loop-w-test.true c.requires.first c.requires.second c.loop-w.invariant c.get_within-first.ensures.did c.get_within-first.ensures.value c.get_within-second.ensures.did c.get_within-second.ensures.value c.select.ensures c.put_within.ensures.did

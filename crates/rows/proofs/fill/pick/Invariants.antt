@@ -8,4 +8,4 @@ use Rattle.rows.proofs.fill.pick.Given as goal
 
 abbrev pub invariant-loop-w : goal.invariant-loop-w
 invariant-loop-w g l =
-    g.M.Memory.seen l.m ≡ accessed (g.M.Memory.seen l.initial.m) (pick_accesses l.a l.b l.to l.w) (over (g.M.Memory.seen l.initial.m).words l.to (part (g.M.Memory.seen l.initial.m).words (chosen l.digit.digit l.b l.a) l.w))
+    g.M.Memory.seen l.m ≡ accessed (g.M.Memory.seen l.initial.m) (pick_accesses l.a l.b l.to l.w) (over (g.M.Memory.seen l.initial.m).words l.to (part (g.M.Memory.seen l.initial.m).words (chosen l.choice.digit l.b l.a) l.w))

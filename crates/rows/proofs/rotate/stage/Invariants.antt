@@ -7,4 +7,4 @@ use Rattle.rows.proofs.rotate.stage.Given as goal
 
 abbrev pub invariant-loop-w : goal.invariant-loop-w
 invariant-loop-w g l =
-    g.M.Memory.seen l.m ≡ accessed (g.M.Memory.seen l.initial.m) (stage_accesses l.base l.v l.w) (filled (g.M.Memory.seen l.initial.m).words l.base (staged (g.M.Memory.seen l.initial.m).words l.base l.v l.digit.digit) l.w)
+    g.M.Memory.seen l.m ≡ accessed (g.M.Memory.seen l.initial.m) (stage_accesses l.base l.v l.w) (filled (g.M.Memory.seen l.initial.m).words l.base (staged (g.M.Memory.seen l.initial.m).words l.base l.v l.choice.digit) l.w)

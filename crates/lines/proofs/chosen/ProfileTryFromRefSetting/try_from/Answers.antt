@@ -2,9 +2,9 @@
 use Rattle.std.proofs.Common.{◌≡◌, true, sym, ap, ◌∙◌, rules}
 use Rattle.std.proofs.lemmas.Bool.{cond-true}
 use Rattle.scheme.specs.Setting.{lawful, numbers, chosen_numbers}
-use Rattle.script.specs.Chosen.{profile_of}
-use Rattle.script.proofs.Profiles.{profile_granted}
-use Rattle.script.proofs.desk.profile.Goals as goal
+use Rattle.lines.specs.Chosen.{profile_of}
+use Rattle.lines.proofs.Profiles.{profile_granted}
+use Rattle.lines.proofs.chosen.ProfileTryFromRefSetting.try_from.Goals as goal
 
 pub returns : goal.returns
 returns c =

@@ -4,7 +4,7 @@ use denote.Struct.Props.{props}
 use Rattle.std.proofs.lemmas.Bool.{both_ways}
 use Rattle.scheme.specs.declared.profile.Profile.{Profile}
 use Rattle.scheme.specs.Setting.{lawful, Numbers, numbers, chosen_numbers}
-use Rattle.script.specs.Chosen.{chosen, if_lawful, profile_of}
+use Rattle.lines.specs.Chosen.{chosen, if_lawful, profile_of}
 
 -- the facts of a profile, over its numbers
 record Facts (n : Numbers) : Type 0 where
