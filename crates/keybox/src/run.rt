@@ -15,6 +15,7 @@ use memory::Memory;
 use std::collections::VecDeque;
 
 impl<M: Memory> KeyBox<M> {
+    // One case for each call, as the definition that the contract cites has it.
     pub fn call(&mut self, call: Call) -> Answer
         ensures { Does M.Memory self.old self.new (shape call) result (next (state M.Memory self.old) call) }
     {

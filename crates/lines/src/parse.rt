@@ -51,7 +51,7 @@ fn taking(mut parts: Parts) -> Option<Command>
     alone(parts, Order::Call(Call::Take(place)))
 }
 
-// What a letter asks for with the parts after it. A P counts in the first line alone.
+// What a letter asks for with the parts after it. A P counts in the first line alone. Letters are literal cases by a rule of the project.
 fn asked(letter: u8, parts: Parts, first: bool) -> Option<Command>
     requires { length parts.rest.now ≤ 119 }
     ensures { option_map request result ≡ then (parts_of parts.entry.rest.now) (asked_of first letter) }

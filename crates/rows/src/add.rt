@@ -1,6 +1,6 @@
 // A row added to numbers that lie across planes of a memory, pack by pack, for every kind of lanes.
 // Plane k of the pack of word w stands at `into + w + k * width`.
-// Loading and storing are two loops: one changes the pack and the other the memory.
+// Loading and storing are two loops: one changes the pack and the other the memory. A place and a width are two numbers, since all packs of a row share the width.
 
 ghost use Rattle.std.specs.Prelude.{◌≡◌, ℕ, ◌+◌, ◌*◌, ◌^◌, ◌<◌, ◌≤◌, length, slice_index};
 ghost use Rattle.memory.specs.Access.{accessed, get as gets, put as puts};

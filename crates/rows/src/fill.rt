@@ -1,7 +1,7 @@
 // Words of a memory written one after another: zeroed, copied, or chosen between two rows.
 // Each promise is one equation: the words afterwards and the accesses made.
 // A memory gives no slice to go through, so loops count places. They are three and not one over a closure, whose promise would have to name the accesses of a turn.
-// That the words lie in the memory, and apart, is asked at each call: it is a fact of places and of the memory as it is then.
+// That the words lie in the memory, and apart, is asked at each call: it is a fact of places and of the memory as it is then, and a type for a place and a length could not hold it.
 
 ghost use Rattle.std.specs.Prelude.{◌≡◌, ◌+◌, ◌≤◌, length};
 ghost use Rattle.memory.specs.Access.{accessed};

@@ -1,6 +1,7 @@
 // The rotation of a row of bits that lies in a memory, by a secret amount: no address, no branch and no loop's length may depend on it.
 // The row is laid twice, one copy after the other, so that a rotation is one shift down: by `by` up, it is the `r` bits from bit (r - by) mod r on.
 // The shift goes by the binary digits of its amount, the highest first. For each digit both results are worked out, and a mask made of the digit chooses: nothing but masks depends on the amount.
+// A hidden one and an amount stay two arguments, since the amount is another one in each function.
 
 ghost use Rattle.std.specs.Prelude.{◌≡◌, ◌+◌, ◌-◌, ◌*◌, ◌/◌, ◌%◌, ◌^◌, ◌<◌, ◌≤◌, ◌∷◌, ◌++◌, length, replicate};
 ghost use Rattle.memory.specs.Access.{accessed, get};

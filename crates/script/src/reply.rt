@@ -1,5 +1,6 @@
 // A printed line as it is put together.
 // The longest is a refusal, with three numbers of at most ten digits and the name of a layer: 44 bytes with the line feed.
+// It has no model: a type that is copied needs its fields back from its view, and the bytes not used are in no view.
 
 ghost use Rattle.std.specs.Prelude.{◌≡◌, ◌≤◌, [], length};
 ghost use Rattle.script.specs.Printing.{said};

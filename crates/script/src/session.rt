@@ -1,5 +1,6 @@
 // A session: the bytes of a script go in, and the reply to each line comes out as soon as the line is complete.
 // What all of them together are for a whole input stands on the contract of `new`.
+// Contracts see desk and session through `desk_of` and `talk_of` and no model, since the laws over whole scripts are stated of those records.
 
 ghost use Rattle.std.specs.Prelude.{◌≡◌};
 ghost use Rattle.std.specs.Option.{option_map};
