@@ -6,7 +6,7 @@ use Rattle.scheme.specs.declared.fault.Told.{Told}
 use Rattle.scheme.specs.declared.fault.ProfileFault.{ProfileFault}
 use Rattle.scheme.specs.declared.fault.ProfileFault.TheVariants.{OutOfRange}
 use Rattle.scheme.specs.declared.fault.InputFault.{InputFault}
-use Rattle.scheme.specs.declared.fault.InputFault.TheVariants.{ErrorRange, ErrorTwice, PublicTail}
+use Rattle.scheme.specs.declared.fault.InputFault.TheVariants.{PositionRange, PositionTwice, InverseTail, NotInverse, ErrorRange, ErrorTwice, PublicTail}
 use Rattle.scheme.specs.declared.fault.BoxFault.{BoxFault}
 use Rattle.scheme.specs.declared.fault.BoxFault.TheVariants.{MemorySmall, OutsideZone, SlipOut, Input}
 
@@ -18,6 +18,10 @@ abbrev pub profile_told : ProfileFault → Told
 profile_told OutOfRange = told 1 profile 0
 
 abbrev pub input_told : InputFault → Told
+input_told (PositionRange p) = told 6 input p
+input_told (PositionTwice p) = told 7 input p
+input_told (InverseTail p) = told 8 input p
+input_told (NotInverse p) = told 9 input p
 input_told (ErrorRange p) = told 10 input p
 input_told (ErrorTwice p) = told 11 input p
 input_told (PublicTail p) = told 12 input p

@@ -71,6 +71,10 @@ pub enum ProfileFault {
 // What is wrong with the words of IN, with the place of the first word that offends.
 #[derive(Clone, Copy, Debug, PartialEq, Eq)]
 pub enum InputFault {
+    PositionRange(u32),
+    PositionTwice(u32),
+    InverseTail(u32),
+    NotInverse(u32),
     ErrorRange(u32),
     ErrorTwice(u32),
     PublicTail(u32),
@@ -108,6 +112,10 @@ impl Fault for InputFault {
 
     fn told(&self) -> Told {
         match *self {
+            InputFault::PositionRange(p) => Told::new(6, Layer::Input, p),
+            InputFault::PositionTwice(p) => Told::new(7, Layer::Input, p),
+            InputFault::InverseTail(p) => Told::new(8, Layer::Input, p),
+            InputFault::NotInverse(p) => Told::new(9, Layer::Input, p),
             InputFault::ErrorRange(p) => Told::new(10, Layer::Input, p),
             InputFault::ErrorTwice(p) => Told::new(11, Layer::Input, p),
             InputFault::PublicTail(p) => Told::new(12, Layer::Input, p),
