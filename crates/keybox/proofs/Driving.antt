@@ -14,7 +14,7 @@ use Rattle.keybox.specs.Model.{State, Answer, giving, next}
 use Rattle.keybox.specs.Accesses.{shape, gives, verdict}
 use Rattle.keybox.specs.Device.{state, Does}
 use Rattle.keybox.specs.Lent.{Driven, driven, called, drive, gives_from}
-use Rattle.keybox.proofs.Refusals.{refusal_number}
+use Rattle.keybox.proofs.Verdicts.{refusal_number}
 
 -- after a refusal no call is made
 drive_refused : (t : Driven) (cs : List Call) → eqb (verdict t.answer) 0 ≡ false → drive t cs ≡ t

@@ -1,4 +1,7 @@
+pub mod Verdicts
+pub mod Granted
 pub mod Refusals
+pub mod Holding
 pub mod Parts
 pub mod Public
 pub mod Hiding
@@ -8,5 +11,12 @@ pub mod Lasts
 pub mod Driving
 pub mod Loans
 pub mod Marking
+pub mod Passing
+pub mod Keys
+pub mod KeyChecks
+pub mod Inverting
+pub mod Units
+pub mod Producing
+pub mod Keeping
 pub mod Sealing
 pub mod Working

@@ -1,11 +1,12 @@
 -- Parts of a list of words. What is read in the first n words, and what is written there, does not depend on the words after them.
-use Rattle.std.proofs.Common.{◌≡◌, ℕ, zero, suc, ◌+◌, ◌-◌, ◌/◌, ◌%◌, ◌<◌, ◌≤◌, Bool, List, [], ◌∷◌, length, take, drop, set, replicate, sum_by, refl, ap, ◌∙◌, mod-lt, arith, length-drop, length-take}
+use Rattle.std.proofs.Common.{◌≡◌, ℕ, zero, suc, ◌+◌, ◌-◌, ◌/◌, ◌%◌, ◌<◌, ◌≤◌, Bool, List, [], ◌∷◌, length, get_or, take, drop, set, replicate, sum_by, sym, refl, ap, ◌∙◌, inl, inr, mod-lt, arith, length-drop, length-take}
 use mathlib.Core.Path.{fun_ext}
 use lib.ListN.{length-replicate}
 use Rattle.std.specs.List.{range_with_len}
 use Rattle.std.proofs.lemmas.List.{get_or-take, get_or-replicate, ext_get_or}
+use Rattle.std.proofs.lemmas.Bool.{cases_lt}
 use Rattle.memory.specs.Words.{over, zeros}
-use Rattle.memory.proofs.Words.{length_zeros, part_at, zeros_in}
+use Rattle.memory.proofs.Words.{length_zeros, part_at, zeros_in, zeros_out}
 use Rattle.rows.specs.Rows.{Row, rotated, product, bit_of, width, row_at, has_tail}
 use Rattle.rows.specs.Ring.{Same}
 use Rattle.rows.specs.Fill.{part}
@@ -17,6 +18,20 @@ part_zeroed ws a n b m low high room =
     ext_get_or 0 _ _ (simp (length-take, length-drop, length_zeros, length-replicate) (omega arith)) (λ i l.
     let k : i < n = omega (arith, length-take n (drop a (zeros ws b m))) in
     grind (arith, part_at (zeros ws b m) a n i k, zeros_in ws b m (a + i - b), get_or-replicate))
+
+-- zeros written where zeros stood
+zeros_same_at : (ws : List ℕ) (a n v : ℕ) → v < n → part ws a n ≡ replicate n 0 → get_or (zeros ws a n) (a + v) 0 ≡ get_or ws (a + v) 0
+zeros_same_at ws a n v l e =
+    zeros_in ws a n v l ∙ sym (get_or-replicate n v 0 0 l) ∙ ap (λ xs. get_or xs v 0) (sym e) ∙ part_at ws a n v l
+
+pub zeros_same : (ws : List ℕ) (a n : ℕ) → part ws a n ≡ replicate n 0 → zeros ws a n ≡ ws
+zeros_same ws a n e = ext_get_or 0 (zeros ws a n) ws (length_zeros ws a n) (λ i _. elim (cases_lt i a) [
+  | inl l ↦ zeros_out ws a n i (inl l)
+  | inr l ↦ elim (cases_lt i (a + n)) [
+    | inl m ↦ let at : i ≡ a + (i - a) = omega arith in rw at (zeros_same_at ws a n (i - a) (omega arith) e)
+    | inr m ↦ zeros_out ws a n i (inr m)
+  ]
+])
 
 -- a put
 take_set_in : (n : ℕ) (ws : List ℕ) (i w : ℕ) → take n (set ws i w) ≡ set (take n ws) i w

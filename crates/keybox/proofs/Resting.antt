@@ -3,7 +3,7 @@ use Rattle.std.proofs.Common.{◌≡◌, ℕ, ◌≤◌, List, [], ◌∷◌, le
 use Rattle.memory.proofs.Words.{length_over, length_zeros, part_out}
 use Rattle.scheme.specs.declared.profile.Profile.{Profile}
 use Rattle.keybox.specs.declared.call.Call.{Call}
-use Rattle.keybox.specs.declared.call.Call.TheVariants.{Give, Take, Seal, Wipe}
+use Rattle.keybox.specs.declared.call.Call.TheVariants.{Give, Take, Load, Seal, Wipe}
 use Rattle.scheme.specs.Zones.{work_at, work_size, N}
 use Rattle.keybox.specs.Model.{State, opened, rested, next}
 use Rattle.keybox.specs.Runs.{after, Rests}
@@ -23,6 +23,7 @@ module _ (s : State) (h : Resting s.profile s) where
   rest_next : (c : Call) → take (work_size s.profile) (drop (work_at s.profile) (next s c).after.words) ≡ replicate (work_size s.profile) 0
   rest_next (Give i w) = grind (arith, h.rest, part_out s.words (work_at s.profile) (work_size s.profile) i (w ∷ []))
   rest_next (Take i) = grind (arith, h.rest)
+  rest_next Load = grind (arith, h.rest, h.room, length_over, length_zeros, rest_rested)
   rest_next Seal = grind (arith, h.rest, h.room, length_over, length_zeros, rest_rested)
   rest_next Wipe = grind (arith, h.rest, h.room, part_zeroed s.words (work_at s.profile) (work_size s.profile) 0 (N s.profile))
 

@@ -1,25 +1,25 @@
 -- What a seal does once its checks passed: the sum that it makes is e0 + g·e1, and its work in WORK is lost under the zeros that it ends with.
-use Rattle.std.proofs.Common.{◌≡◌, ℕ, zero, suc, ◌+◌, ◌-◌, ◌*◌, ◌/◌, ◌%◌, ◌^◌, ◌<◌, ◌≤◌, Bool, true, false, cond, eqb, ltb, leb, List, [], ◌∷◌, ◌++◌, map, length, get_or, drop, set, replicate, Some, None, Ok, sum_by, Option, sym, refl, ap, ◌∙◌, subst, inl, inr, mod-eq_of_lt, arith, length-set, length-take, get_or-set_other, get_or-set_same}
+use Rattle.std.proofs.Common.{◌≡◌, ℕ, ◌+◌, ◌-◌, ◌*◌, ◌/◌, ◌%◌, ◌^◌, ◌<◌, ◌≤◌, true, false, cond, eqb, ltb, leb, List, [], ◌∷◌, ◌++◌, map, length, get_or, drop, set, replicate, None, Ok, sum_by, sym, refl, ap, ◌∙◌, subst, inl, inr, mod-eq_of_lt, arith, length-set, length-take, get_or-set_other, get_or-set_same}
 use native.Mathlib.Nat.{mod_self, add-mod_right}
 use lib.ListN.{length-replicate}
 use Rattle.std.specs.List.{AllByRecursion, range_with_len}
 use Rattle.std.proofs.lemmas.List.Sums.{sum_by-cons}
 use Rattle.std.proofs.ByRecursion.{All-from_get_or}
-use Rattle.std.proofs.lemmas.Bool.{cases_lt, cases_eq, cases_order, leb-false, lt-ltb, le-ltb, le-leb, lt-leb, eq-eqb, ne_eqb}
+use Rattle.std.proofs.lemmas.Bool.{cases_lt, cases_order, leb-false, lt-ltb, le-ltb, le-leb, lt-leb, eq-eqb, ne_eqb}
 use Rattle.memory.specs.Words.{over, zeros}
 use Rattle.memory.specs.Access.{Seen, accessed, put}
 use Rattle.memory.proofs.Traces.{accessed_then}
 use Rattle.memory.proofs.Words.{over_set, zeros_inside, zeros_zeros, part_over, length_zeros, zeros_in, zeros_out, part_at, part_out, part_zeros}
 use Rattle.rows.specs.Rows.{Row, bit_of, unit, rotated, kept, row_at, word_of, words_of, has_tail}
 use Rattle.std.proofs.lemmas.List.FromFn.{length-map-range_with_len}
-use Rattle.scheme.specs.declared.fault.BoxFault.TheVariants.{MemorySmall, SlipOut, Input}
+use Rattle.scheme.specs.declared.fault.BoxFault.TheVariants.{MemorySmall, SlipOut}
 use Rattle.keybox.specs.declared.call.Grant.TheVariants.{Rotations}
 use Rattle.keybox.specs.Device.{Roomy, granted, checked}
+use Rattle.keybox.proofs.Passing.{none_found, all_passed, unset, all_clear}
 use Rattle.keybox.proofs.Working.{work_lost}
 use Rattle.rows.specs.Sum.{index}
 use Rattle.scheme.specs.declared.profile.Profile.{Profile}
 use Rattle.std.specs.Option.{option_map}
-use Rattle.scheme.specs.declared.fault.InputFault.{InputFault}
 use Rattle.scheme.specs.declared.fault.InputFault.TheVariants.{ErrorRange, ErrorTwice, PublicTail}
 use Rattle.rows.specs.Fill.{part}
 use Rattle.rows.specs.Sum.{Fits, sum_words, sum_accesses}
@@ -79,25 +79,6 @@ pub syndrome_is : (r : ℕ) (qs : List ℕ) (g : Row) (j : ℕ) → j < r
 syndrome_is r qs g j k =
     let e = both_halves r qs g j k in
     omega (arith, e)
-
--- a check of places that found none
-none_found : (t : ℕ → Bool) (a n : ℕ) → first_place t (range_with_len a n) ≡ None → (i : ℕ) → a ≤ i → i < a + n → t i ≡ false
-none_found t a zero e i low high = absurd (omega arith)
-none_found t a (suc n) e i low high = at (t a) refl e (λ rest above. none_found t (a + 1) n rest i above (omega arith))
-  where
-    at : (b : Bool) → t a ≡ b → cond b (Some a) (first_place t (range_with_len (a + 1) n)) ≡ None
-        → (first_place t (range_with_len (a + 1) n) ≡ None → a + 1 ≤ i → t i ≡ false) → t i ≡ false
-    at true here found later = let z : ◌≡◌ {A = ℕ} 0 1 = cc in absurd (omega arith)
-    at false here found later = elim (cases_eq i a) [ inl same ↦ ap t same ∙ here | inr other ↦ later found (omega arith) ]
-
--- of checks that all passed, each did
-all_passed : (f : ℕ → InputFault) (o : Option ℕ) (os : List (Option InputFault)) → first (option_map f o ∷ os) ≡ None → (o ≡ None) × (first os ≡ None)
-all_passed f None os e = (refl, e)
-all_passed f (Some i) os e = let z : ◌≡◌ {A = ℕ} 0 1 = cc in absurd (omega arith)
-
-unset : (b : Bool) (i : ℕ) → when b i ≡ None → b ≡ false
-unset false i e = refl
-unset true i e = let z : ◌≡◌ {A = ℕ} 0 1 = cc in absurd (omega arith)
 
 module _ (p : Profile) (ws : List ℕ) (room : N p ≤ length ws) where
   -- the words that the sum begins with: WORK zero but for the row of bit 0 alone
@@ -230,19 +211,6 @@ module _ (p : Profile) (s a b : Seen) (plan : Plan) (at : ℕ) (is_plan : plan �
         let later = sum_accesses 1 (seal_plan p) ++ last in
         accessed_then s a e (rest_accesses p) (put (work_row p 0) ∷ later) _ _ rests
         (accessed_then a b e (put (work_row p 0) ∷ []) later _ _ one_put (accessed_then b c e (sum_accesses 1 (seal_plan p)) last _ _ two (accessed_then c d e (publish_accesses p 2) (rest_accesses p) _ _ three four)))
-
--- a check of IN that answered Ok found nothing wrong
-pub none_wrong : (o : Option InputFault) (u : Unit {0}) → Ok u ≡ checked o → o ≡ None
-none_wrong None u e = refl
-none_wrong (Some f) u e = let z : ◌≡◌ {A = ℕ} 0 1 = cc in absurd (omega arith)
-
--- what two checks and those of IN come to, where all passed
-all_clear : (a b : Bool) (o : Option InputFault) (u v : Unit {0}) → Ok u ≡ granted (first (when a MemorySmall ∷ when b SlipOut ∷ [])) → Ok v ≡ checked o
-    → first (when a MemorySmall ∷ when b SlipOut ∷ option_map Input o ∷ []) ≡ None
-all_clear false false None u v e f = refl
-all_clear false false (Some x) u v e f = let z : ◌≡◌ {A = ℕ} 0 1 = cc in absurd (omega arith)
-all_clear false true o u v e f = let z : ◌≡◌ {A = ℕ} 0 1 = cc in absurd (omega arith)
-all_clear true b o u v e f = let z : ◌≡◌ {A = ℕ} 0 1 = cc in absurd (omega arith)
 
 -- a seal: its checks, which passed, and its work
 module _ (s : State) (m t u : Seen) (n : ℕ) (same : m.words ≡ s.words) (x y : Unit {0})

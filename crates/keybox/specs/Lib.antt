@@ -3,6 +3,8 @@ pub mod Marks
 pub mod Accesses
 pub mod Runs
 pub mod Lasting
+pub mod Loading
+pub mod Making
 pub mod Device
 pub mod Lent
 pub mod Cases

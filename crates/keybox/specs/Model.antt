@@ -3,19 +3,19 @@ use Rattle.std.specs.Prelude.{ℕ, zero, suc, ◌+◌, ◌-◌, ◌*◌, Bool, t
 use Rattle.std.specs.List.{range_with_len}
 use Rattle.std.specs.Option.{option_map}
 use Rattle.memory.specs.Words.{over, zeros}
-use Rattle.rows.specs.Rows.{Row, plus, product, kept, row_at, words_of, has_tail}
+use Rattle.rows.specs.Rows.{Row, unit, plus, product, is_none, kept, row_at, words_of, has_tail}
 use Rattle.rows.specs.Ring.{marks}
 use Rattle.rows.specs.Fill.{part}
 use Rattle.scheme.specs.declared.profile.Profile.{Profile}
 use Rattle.scheme.specs.declared.fault.InputFault.{InputFault}
-use Rattle.scheme.specs.declared.fault.InputFault.TheVariants.{ErrorRange, ErrorTwice, PublicTail}
+use Rattle.scheme.specs.declared.fault.InputFault.TheVariants.{PositionRange, PositionTwice, InverseTail, NotInverse, ErrorRange, ErrorTwice, PublicTail}
 use Rattle.scheme.specs.declared.fault.BoxFault.{BoxFault}
 use Rattle.scheme.specs.declared.fault.BoxFault.TheVariants.{MemorySmall, OutsideZone, SlipOut, Input}
 use Rattle.keybox.specs.declared.call.Call.{Call}
-use Rattle.keybox.specs.declared.call.Call.TheVariants.{Give, Take, Seal, Wipe}
+use Rattle.keybox.specs.declared.call.Call.TheVariants.{Give, Take, Load, Seal, Wipe}
 use Rattle.keybox.specs.declared.call.Grant.{Grant}
 use Rattle.keybox.specs.declared.call.Grant.TheVariants.{Done, Word, Rotations}
-use Rattle.scheme.specs.Zones.{W, B, in_size, out_at, out_size, work_at, work_size, N}
+use Rattle.scheme.specs.Zones.{W, B, in_size, key_at, out_at, out_size, work_at, work_size, N}
 
 -- a box: its profile, its unit number, whether a key is loaded, whether a slip is out, and the words of its memory
 pub record State : Type 0 where
@@ -97,6 +97,55 @@ abbrev pub taking : State → ℕ → Outcome
 taking s i = grants (place_fault s (out_size s.profile) i) s
     (record { answer = Ok (Word (slice_index s.words (out_at s.profile + i))); after = s })
 
+-- the place of the last word of the row in IN, if it has a bit set past the row's end
+abbrev pub tail_place : Profile → List ℕ → Option ℕ
+tail_place p ws = when (has_tail p.r ws (B p)) (B p + (W p - 1))
+
+-- what is wrong with the positions and the inverse that load reads in IN, looked at word by word
+abbrev pub load_input_fault : Profile → List ℕ → Option InputFault
+load_input_fault p ws =
+    first (
+    option_map PositionRange (first_place (λ i. leb p.r (slice_index ws i)) (range_with_len 0 (2 * p.d)))
+    ∷ option_map PositionTwice (first_place (again (part ws 0 p.d)) (range_with_len 0 p.d))
+    ∷ option_map (λ i. PositionTwice (p.d + i)) (first_place (again (part ws p.d p.d)) (range_with_len 0 p.d))
+    ∷ option_map InverseTail (tail_place p ws)
+    ∷ [])
+
+abbrev pub load_fault : State → Option BoxFault
+load_fault s = first (when (small s) MemorySmall ∷ when s.out SlipOut ∷ option_map Input (load_input_fault s.profile s.words) ∷ [])
+
+-- the two halves of a key and the row f, as load reads them in IN
+abbrev pub first_half : Profile → List ℕ → List ℕ
+first_half p ws = part ws 0 p.d
+
+abbrev pub second_half : Profile → List ℕ → List ℕ
+second_half p ws = part ws p.d p.d
+
+-- whether the row f is the inverse of the first half: h0·f has bit 0 alone
+abbrev pub is_inverse : Profile → List ℕ → Bool
+is_inverse p ws = is_none p.r (plus unit (product p.r (first_half p ws) (row_at ws (B p))))
+
+-- the public row g = h1·f
+abbrev pub public_row : Profile → List ℕ → Row
+public_row p ws = product p.r (second_half p ws) (row_at ws (B p))
+
+-- the words with a row and zeros in OUT, and zeros in IN: how a call leaves them that publishes a row
+abbrev pub published : Profile → List ℕ → List ℕ → List ℕ
+published p row ws = zeros (over ws (out_at p) (row ++ replicate (W p) 0)) 0 (in_size p)
+
+-- the words after a granted load: KEY holds the positions, OUT the public row and zeros, and IN is zero
+abbrev pub loaded_words : Profile → List ℕ → List ℕ
+loaded_words p ws = rested p (published p (words_of p.r (public_row p ws)) (over ws (key_at p) (part ws 0 (2 * p.d))))
+
+abbrev pub loading : State → Outcome
+loading s = grants (load_fault s) s
+    (cond (is_inverse s.profile s.words)
+    (record {
+      answer = Ok (Rotations (2 * s.profile.d));
+      after = record { profile = s.profile; number = s.number; loaded = true; out = s.out; words = loaded_words s.profile s.words };
+    })
+    (record { answer = Err (Input (NotInverse (B s.profile))); after = with_words s (rested s.profile s.words) }))
+
 -- the positions of an error row of 2r bits that lie in its first half, and those of its second half, as bits of that half
 abbrev pub left_half : ℕ → List ℕ → List ℕ
 left_half r qs = kept (λ q. ltb q r) qs
@@ -107,10 +156,6 @@ right_half r qs = map (λ q. q - r) (kept (λ q. leb r q) qs)
 -- the public syndrome e0 + g·e1 of the error row with ones at some positions, under the public row g
 abbrev pub public_syndrome : ℕ → List ℕ → Row → Row
 public_syndrome r qs g = plus (marks (left_half r qs)) (product r (right_half r qs) g)
-
--- the place of the last word of the row in IN, if it has a bit set past the row's end
-abbrev pub tail_place : Profile → List ℕ → Option ℕ
-tail_place p ws = when (has_tail p.r ws (B p)) (B p + (W p - 1))
 
 -- what is wrong with the positions and the row that seal reads in IN, if anything is
 abbrev pub seal_input_fault : Profile → List ℕ → Option InputFault
@@ -123,10 +168,6 @@ seal_input_fault p ws =
 
 abbrev pub seal_fault : State → Option BoxFault
 seal_fault s = first (when (small s) MemorySmall ∷ when s.out SlipOut ∷ option_map Input (seal_input_fault s.profile s.words) ∷ [])
-
--- the words with a row and zeros in OUT, and zeros in IN: how a call leaves them that publishes a row
-abbrev pub published : Profile → List ℕ → List ℕ → List ℕ
-published p row ws = zeros (over ws (out_at p) (row ++ replicate (W p) 0)) 0 (in_size p)
 
 -- the words after a granted seal: OUT holds the public syndrome and zeros, and IN is zero
 abbrev pub sealed_words : Profile → List ℕ → List ℕ
@@ -145,5 +186,6 @@ wiping s = grants (wipe_fault s) s
 abbrev pub next : State → Call → Outcome
 next s (Give i w) = giving s i w
 next s (Take i) = taking s i
+next s Load = loading s
 next s Seal = sealing s
 next s Wipe = wiping s

@@ -1,12 +1,14 @@
 -- Whole runs of a box: what a list of calls answers and leaves, and what no run may show.
-use Rattle.std.specs.Prelude.{◌≡◌, ℕ, ◌≤◌, List, [], ◌∷◌, map, length, take, drop, replicate, Ok, Err, ◌≢◌}
+use Rattle.std.specs.Prelude.{◌≡◌, ℕ, ◌*◌, ◌<◌, ◌≤◌, true, false, List, [], ◌∷◌, map, length, take, drop, replicate, Ok, Err, ◌≢◌}
+use Rattle.std.specs.List.{AllByRecursion}
 use Rattle.memory.specs.Access.{Rule, Seen, traced}
+use Rattle.rows.specs.Fill.{part}
 use Rattle.scheme.specs.declared.profile.Profile.{Profile}
 use Rattle.keybox.specs.declared.call.Call.{Call}
 use Rattle.keybox.specs.declared.call.Call.TheVariants.{Wipe}
 use Rattle.keybox.specs.declared.call.Grant.TheVariants.{Done, Word, Rotations}
-use Rattle.keybox.specs.Model.{State, Answer, opened, next}
-use Rattle.scheme.specs.Zones.{work_at, work_size, N}
+use Rattle.keybox.specs.Model.{State, Answer, again, opened, next}
+use Rattle.scheme.specs.Zones.{key_at, work_at, work_size, N}
 use Rattle.keybox.specs.Accesses.{public, shape, verdict, accesses}
 
 -- what a box answers to a list of calls, each on the box as the last one left it, and the box in the end
@@ -68,3 +70,14 @@ abbrev pub RefusalsChangeNothing : Profile → ℕ → List ℕ → List Call �
 RefusalsChangeNothing p u ws cs =
     (c : Call) → (verdict (next (after (opened p u ws) cs) c).answer ≢ 0)
     → (next (after (opened p u ws) cs) c).after ≡ after (opened p u ws) cs
+
+-- the words of a key are positions of a row of r bits, and none stands twice in its half of d
+pub record Positions (r d : ℕ) (qs : List ℕ) : Type 0 where
+  pub below : AllByRecursion (λ q. q < r) qs
+  pub first_once : (i : ℕ) → i < d → again (take d qs) i ≡ false
+  pub second_once : (i : ℕ) → i < d → again (drop d qs) i ≡ false
+
+-- KEY holds positions after any calls on a box that was opened, where a key is loaded
+abbrev pub KeyHolds : Profile → ℕ → List ℕ → List Call → Type 0
+KeyHolds p u ws cs =
+    (after (opened p u ws) cs).loaded ≡ true → Positions p.r p.d (part (after (opened p u ws) cs).words (key_at p) (2 * p.d))

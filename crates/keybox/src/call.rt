@@ -5,6 +5,7 @@ use scheme::fault::BoxFault;
 pub enum Call {
     Give(u32, u32),
     Take(u32),
+    Load,
     Seal,
     Wipe,
 }

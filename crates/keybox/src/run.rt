@@ -22,6 +22,7 @@ impl<M: Memory> KeyBox<M> {
         match call {
             Call::Give(place, word) => self.give(place, word).map(|()| Grant::Done),
             Call::Take(place) => self.take(place).map(Grant::Word),
+            Call::Load => self.load().map(Grant::Rotations),
             Call::Seal => self.seal().map(Grant::Rotations),
             Call::Wipe => self.wipe().map(|()| Grant::Done),
         }

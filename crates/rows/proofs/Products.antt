@@ -65,7 +65,7 @@ plane_row r m x h =
 
 -- ---- a sum of rows
 
-none_bit : (j : ℕ) → bit_of 0 j ≡ 0
+pub none_bit : (j : ℕ) → bit_of 0 j ≡ 0
 none_bit j = ap (λ (x : ℕ). x % 2) (zero-div (2 ^ j))
 
 -- a row with no bit past its end is the same when it is cut
@@ -139,7 +139,7 @@ module _ (r at count into scratch : ℕ) (ws : List ℕ) (z : (i : ℕ) → i < 
 abbrev pub OneAt : ℕ → List ℕ → ℕ → Type 0
 OneAt r ws a = (get_or ws a 0 ≡ 1) × ((i : ℕ) → 0 < i → i < width r → get_or ws (a + i) 0 ≡ 0)
 
-one_bit : (j : ℕ) → bit_of 1 j ≡ unit j
+pub one_bit : (j : ℕ) → bit_of 1 j ≡ unit j
 one_bit zero = refl
 one_bit (suc j) =
     let small : 1 < 2 ^ suc j = pow_below 0 (suc j) (omega arith) in
