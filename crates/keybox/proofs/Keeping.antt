@@ -9,8 +9,10 @@ use Rattle.rows.specs.Rows.{product, row_at, word_of, words_of}
 use Rattle.rows.specs.Fill.{part, copy_accesses}
 use Rattle.rows.proofs.Loops.{size, length_part}
 use Rattle.scheme.specs.declared.profile.Profile.{Profile}
+use Rattle.scheme.specs.declared.fault.InputFault.{InputFault}
 use Rattle.scheme.specs.declared.fault.InputFault.TheVariants.{NotInverse}
 use Rattle.scheme.specs.declared.fault.BoxFault.TheVariants.{MemorySmall, SlipOut, Input}
+use Rattle.scheme.specs.Faults.{input_told}
 use Rattle.scheme.specs.Zones.{W, B, key_at, work_at, work_size, work_row, N}
 use Rattle.keybox.specs.declared.call.Grant.TheVariants.{Rotations}
 use Rattle.keybox.specs.Model.{State, Outcome, first, when, grants, small, with_words, rested, published, first_half, public_row, is_inverse, load_input_fault, load_fault, loaded_words, loading}
@@ -159,15 +161,16 @@ module _ (s : State) (m t u v w : Seen) (b : Bool) (same : m.words ≡ s.words) 
     pub load_seen : w ≡ accessed m (load_accesses s.profile 0) w.words
     load_seen = then_seen (loaded_accesses s.profile) (key_kept s.profile v.words) keeps
 
-  module _ (place : ℕ) (at : place ≡ B s.profile) (is : b ≡ false) (rests : w ≡ accessed v (rest_accesses s.profile) (rested s.profile v.words)) where
-    pub refused_effect : record { answer = Err (Input (NotInverse place)); after = with_words s w.words } ≡ loading s
+  module _ (f : InputFault) (at : f ≡ NotInverse (B s.profile)) (is : b ≡ false) (rests : w ≡ accessed v (rest_accesses s.profile) (rested s.profile v.words)) where
+    pub refused_effect : record { answer = Err (Input f); after = with_words s w.words } ≡ loading s
     refused_effect =
         let p = s.profile in
         let yes : Outcome = record { answer = Ok (Rotations (2 * p.d)); after = record { profile = p; number = s.number; loaded = true; out = s.out; words = loaded_words p s.words } } in
         let no : Outcome = record { answer = Err (Input (NotInverse (B p))); after = with_words s (rested p s.words) } in
         let left : w.words ≡ rested p s.words = ap (λ z. z.words) rests ∙ ap (rested p) seen_made ∙ products_lost p s.words room in
-        (λ k. record { answer = Err (Input (NotInverse (at k))); after = with_words s (left k) })
+        (λ k. record { answer = Err (Input (at k)); after = with_words s (left k) })
         ∙ ap (λ c. cond c yes no) (sym is ∙ outcome) ∙ ap (λ f. grants f s (cond (is_inverse p s.words) yes no)) (sym fine)
 
-    pub refused_seen : w ≡ accessed m (load_accesses s.profile 9) w.words
-    refused_seen = then_seen (rest_accesses s.profile) (rested s.profile v.words) rests
+    pub refused_seen : w ≡ accessed m (load_accesses s.profile (input_told f).number) w.words
+    refused_seen =
+        then_seen (rest_accesses s.profile) (rested s.profile v.words) rests ∙ ap (λ e. accessed m (load_accesses s.profile (input_told e).number) w.words) (sym at)

@@ -4,11 +4,12 @@
 ghost use Rattle.std.specs.Prelude.{◌≡◌, ◌*◌, ◌<◌, None};
 ghost use Rattle.memory.specs.Access.{accessed};
 ghost use Rattle.rows.specs.Fill.{part};
-ghost use Rattle.scheme.specs.Zones.{W, work_row};
-ghost use Rattle.keybox.specs.Model.{load_input_fault, loading};
+ghost use Rattle.scheme.specs.Zones.{W, B, work_row};
+ghost use Rattle.scheme.specs.declared.fault.InputFault.TheVariants.{NotInverse};
+ghost use Rattle.keybox.specs.Model.{load_input_fault, loading, rested};
 ghost use Rattle.keybox.specs.Making.{products_made, is_unit, key_kept};
 ghost use Rattle.keybox.specs.Loading.{LoadInverts};
-ghost use Rattle.keybox.specs.Accesses.{loads, load_check_accesses, load_plan, products_accesses, read_accesses, loaded_accesses};
+ghost use Rattle.keybox.specs.Accesses.{loads, rest_accesses, load_check_accesses, load_plan, products_accesses, read_accesses, loaded_accesses};
 ghost use Rattle.keybox.specs.Device.{state, rotation_count, checked, input_verdict, Roomy, Does};
 
 use crate::checks::{first_again, first_beyond, tail_set};
@@ -104,6 +105,16 @@ fn keep_key<M: Memory>(m: &mut M, profile: &Profile)
     rest(m, profile);
 }
 
+// Gives a load up whose first product is not 1: nothing of it stays in WORK.
+fn no_inverse<M: Memory>(memory: &mut M, profile: &Profile) -> InputFault
+    requires { Roomy profile.now (M.Memory.seen memory.old).words }
+    ensures value { result ≡ NotInverse (B profile.now) }
+    ensures did { M.Memory.seen memory.new ≡ accessed (M.Memory.seen memory.old) (rest_accesses profile.now) (rested profile.now (M.Memory.seen memory.old).words) }
+{
+    rest(memory, profile);
+    InputFault::NotInverse(profile.row_place())
+}
+
 // What a granted load has found out: f is the inverse of the first half, and the public row takes the first half to the second.
 pub fn load_inverts()
     ensures { LoadInverts }
@@ -121,8 +132,7 @@ impl<M: Memory> KeyBox<M> {
             self.loaded = true;
             Ok(count)
         } else {
-            rest(&mut self.memory, &self.profile);
-            Err(BoxFault::Input(InputFault::NotInverse(self.profile.row_place())))
+            Err(BoxFault::Input(no_inverse(&mut self.memory, &self.profile)))
         }
     }
 }

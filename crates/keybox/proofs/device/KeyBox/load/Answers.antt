@@ -13,8 +13,8 @@ keep_key-requires g c =
     looked_room c.args.self.now.profile (g.M.Memory.seen c.args.self.now.memory) _ _
     c.in_ok-ready.ensures.room c.in_ok-check_key.ensures.did c.make_products-count.ensures.did _ c.is_unit.ensures.did
 
-pub rest-requires : goal.rest-requires
-rest-requires g c =
+pub no_inverse-requires : goal.no_inverse-requires
+no_inverse-requires g c =
     looked_room c.args.self.now.profile (g.M.Memory.seen c.args.self.now.memory) _ _
     c.in_ok-ready.ensures.room c.in_ok-check_key.ensures.did c.make_products-count.ensures.did _ c.is_unit.ensures.did
 
@@ -46,8 +46,8 @@ returns-else-is_unit g c =
     let makes = c.make_products-count.ensures.did in
     let tests = c.is_unit.ensures.value in
     let looks = c.is_unit.ensures.did in
-    let at = c.row_place.ensures.value in
+    let at = c.no_inverse.ensures.value in
     record {
-      effect = refused_effect s m _ _ _ _ _ refl room _ _ ready clean checks makes tests looks _ at c.if-is_unit.false c.rest.ensures;
-      seen = refused_seen s m _ _ _ _ _ refl room _ _ ready clean checks makes tests looks _ at c.if-is_unit.false c.rest.ensures;
+      effect = refused_effect s m _ _ _ _ _ refl room _ _ ready clean checks makes tests looks _ at c.if-is_unit.false c.no_inverse.ensures.did;
+      seen = refused_seen s m _ _ _ _ _ refl room _ _ ready clean checks makes tests looks _ at c.if-is_unit.false c.no_inverse.ensures.did;
     }
