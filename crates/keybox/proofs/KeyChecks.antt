@@ -33,31 +33,31 @@ stands_twice p ws a = first_place (again (part ws a p.d)) (range_with_len 0 p.d)
 
 module _ (p : Profile) (s t u v : Seen)
     (in_range : None ≡ first_place (λ i. leb p.r (get_or s.words i 0)) (range_with_len 0 (2 * p.d)))
-    (positions-read : t ≡ accessed s (read_accesses 0 (2 * p.d)) s.words)
+    (positions_read : t ≡ accessed s (read_accesses 0 (2 * p.d)) s.words)
     (first_read : u ≡ accessed t (pair_accesses 0 p.d) t.words)
-    (second-read : v ≡ accessed u (pair_accesses p.d p.d) u.words) where
+    (second_read : v ≡ accessed u (pair_accesses p.d p.d) u.words) where
   -- all positions are in range: the next checks decide
   pub key_value : (one two tail : Option ℕ) → one ≡ stands_twice p t.words 0 → two ≡ stands_twice p u.words p.d → tail ≡ tail_place p v.words
       → verdicts p None one two tail ≡ checked (load_input_fault p s.words)
-  key_value one two tail in-first in-second last =
-      let same-t : t.words ≡ s.words = ap (λ z. z.words) positions-read in
-      let same-u : u.words ≡ s.words = ap (λ z. z.words) first_read ∙ same-t in
-      let same-v : v.words ≡ s.words = ap (λ z. z.words) second-read ∙ same-u in
-      ap (λ o. verdicts p None o two tail) (in-first ∙ ap (λ ws. stands_twice p ws 0) same-t)
-      ∙ ap (λ o. verdicts p None (stands_twice p s.words 0) o tail) (in-second ∙ ap (λ ws. stands_twice p ws p.d) same-u)
-      ∙ ap (verdicts p None (stands_twice p s.words 0) (stands_twice p s.words p.d)) (last ∙ ap (tail_place p) same-v)
+  key_value one two tail in_first in_second last =
+      let same_t : t.words ≡ s.words = ap (λ z. z.words) positions_read in
+      let same_u : u.words ≡ s.words = ap (λ z. z.words) first_read ∙ same_t in
+      let same_v : v.words ≡ s.words = ap (λ z. z.words) second_read ∙ same_u in
+      ap (λ o. verdicts p None o two tail) (in_first ∙ ap (λ ws. stands_twice p ws 0) same_t)
+      ∙ ap (λ o. verdicts p None (stands_twice p s.words 0) o tail) (in_second ∙ ap (λ ws. stands_twice p ws p.d) same_u)
+      ∙ ap (verdicts p None (stands_twice p s.words 0) (stands_twice p s.words p.d)) (last ∙ ap (tail_place p) same_v)
       ∙ ap (λ o. verdicts p o (stands_twice p s.words 0) (stands_twice p s.words p.d) (tail_place p s.words)) in_range
 
   -- some accesses more, after those of the checks of both halves
   then_accesses : (w : Seen) (more : List Access) → w ≡ accessed v more v.words
       → w ≡ accessed s (read_accesses 0 (2 * p.d) ++ (pair_accesses 0 p.d ++ (pair_accesses p.d p.d ++ more))) s.words
   then_accesses w more did =
-      let same-t : t.words ≡ s.words = ap (λ z. z.words) positions-read in
-      let same-u : u.words ≡ s.words = ap (λ z. z.words) first_read ∙ same-t in
-      let same-v : v.words ≡ s.words = ap (λ z. z.words) second-read ∙ same-u in
-      accessed_then s t w (read_accesses 0 (2 * p.d)) (pair_accesses 0 p.d ++ (pair_accesses p.d p.d ++ more)) s.words s.words positions-read
+      let same_t : t.words ≡ s.words = ap (λ z. z.words) positions_read in
+      let same_u : u.words ≡ s.words = ap (λ z. z.words) first_read ∙ same_t in
+      let same_v : v.words ≡ s.words = ap (λ z. z.words) second_read ∙ same_u in
+      accessed_then s t w (read_accesses 0 (2 * p.d)) (pair_accesses 0 p.d ++ (pair_accesses p.d p.d ++ more)) s.words s.words positions_read
       (accessed_then t u w (pair_accesses 0 p.d) (pair_accesses p.d p.d ++ more) t.words s.words first_read
-      (accessed_then u v w (pair_accesses p.d p.d) more u.words s.words second-read (did ∙ ap (accessed v more) same-v)))
+      (accessed_then u v w (pair_accesses p.d p.d) more u.words s.words second_read (did ∙ ap (accessed v more) same_v)))
 
   pub pairs_did : v ≡ accessed s (load_check_accesses p 7) s.words
   pairs_did = then_accesses v [] refl

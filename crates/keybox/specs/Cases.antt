@@ -1,4 +1,4 @@
--- Worked examples with a public row of seven bits, as one table.
+-- Worked examples with a key of seven bits, as one table.
 use Rattle.std.specs.Prelude.{◌≡◌, ℕ, Bool, false, cond, ◌||◌, List, [], ◌∷◌, map, ◌==◌}
 use Rattle.rows.specs.Rows.{Row, rotated, product, support}
 use Rattle.keybox.specs.Model.{public_syndrome}

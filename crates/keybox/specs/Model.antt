@@ -101,27 +101,27 @@ taking s i = grants (place_fault s (out_size s.profile) i) s
 abbrev pub tail_place : Profile → List ℕ → Option ℕ
 tail_place p ws = when (has_tail p.r ws (B p)) (B p + (W p - 1))
 
--- what is wrong with the positions and the inverse that load reads in IN, looked at word by word
-abbrev pub load_input_fault : Profile → List ℕ → Option InputFault
-load_input_fault p ws =
-    first (
-    option_map PositionRange (first_place (λ i. leb p.r (slice_index ws i)) (range_with_len 0 (2 * p.d)))
-    ∷ option_map PositionTwice (first_place (again (part ws 0 p.d)) (range_with_len 0 p.d))
-    ∷ option_map (λ i. PositionTwice (p.d + i)) (first_place (again (part ws p.d p.d)) (range_with_len 0 p.d))
-    ∷ option_map InverseTail (tail_place p ws)
-    ∷ [])
-
-abbrev pub load_fault : State → Option BoxFault
-load_fault s = first (when (small s) MemorySmall ∷ when s.out SlipOut ∷ option_map Input (load_input_fault s.profile s.words) ∷ [])
-
--- the two halves of a key and the row f, as load reads them in IN
+-- the two halves of a key, as load reads them in IN
 abbrev pub first_half : Profile → List ℕ → List ℕ
 first_half p ws = part ws 0 p.d
 
 abbrev pub second_half : Profile → List ℕ → List ℕ
 second_half p ws = part ws p.d p.d
 
--- whether the row f is the inverse of the first half: h0·f has bit 0 alone
+-- what is wrong with the positions and the inverse that load reads in IN, looked at word by word
+abbrev pub load_input_fault : Profile → List ℕ → Option InputFault
+load_input_fault p ws =
+    first (
+    option_map PositionRange (first_place (λ i. leb p.r (slice_index ws i)) (range_with_len 0 (2 * p.d)))
+    ∷ option_map PositionTwice (first_place (again (first_half p ws)) (range_with_len 0 p.d))
+    ∷ option_map (λ i. PositionTwice (p.d + i)) (first_place (again (second_half p ws)) (range_with_len 0 p.d))
+    ∷ option_map InverseTail (tail_place p ws)
+    ∷ [])
+
+abbrev pub load_fault : State → Option BoxFault
+load_fault s = first (when (small s) MemorySmall ∷ when s.out SlipOut ∷ option_map Input (load_input_fault s.profile s.words) ∷ [])
+
+-- whether the row f at place B of IN is the inverse of the first half: h0·f has bit 0 alone
 abbrev pub is_inverse : Profile → List ℕ → Bool
 is_inverse p ws = is_none p.r (plus unit (product p.r (first_half p ws) (row_at ws (B p))))
 

@@ -89,10 +89,10 @@ fn is_unit<M: Memory>(m: &mut M, profile: &Profile) -> bool
     let mut wanted = 1;
     for w in 0..width {
         let word = m.get_within(at + w);
-        differences = differences | (word ^ wanted);
+        differences |= word ^ wanted;
         wanted = 0;
     }
-    differences == 0
+    One::hidden(profile.r).equal(differences, 0).reveal()
 }
 
 // Copies the positions to KEY and publishes the second row of WORK.

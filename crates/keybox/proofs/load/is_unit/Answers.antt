@@ -1,7 +1,7 @@
-use Rattle.std.proofs.Common.{◌≡◌, ◌+◌, ◌<◌, length, get_or, refl, ap, ◌∙◌, arith}
+use Rattle.std.proofs.Common.{◌≡◌, ◌+◌, ◌<◌, eqb, length, get_or, refl, ap, ◌∙◌, arith}
 use Rattle.scheme.specs.Zones.{W}
 use Rattle.keybox.specs.Accesses.{read_accesses}
-use Rattle.keybox.proofs.Marking.{read_step}
+use Rattle.keybox.proofs.Marking.{read_step, digit_of}
 use Rattle.keybox.proofs.Units.{none_wanted, unit_step, all_unit, all_read}
 use Rattle.keybox.proofs.load.is_unit.Goals as goal
 
@@ -23,6 +23,6 @@ pub returns : goal.returns
 returns g c =
     let all : c.loop-w.w ≡ W c.args.profile.now = omega (arith, c.width-width.ensures.value) in
     record {
-      value = all_unit _ _ _ _ _ _ c.work_row-at.ensures.value all c.loop-w.invariant.1;
+      value = c.reveal.ensures ∙ ap (λ z. eqb z 1) c.equal.ensures ∙ digit_of _ ∙ all_unit _ _ _ _ _ _ c.work_row-at.ensures.value all c.loop-w.invariant.1;
       did = all_read _ _ _ _ _ _ c.work_row-at.ensures.value all c.loop-w.invariant.2;
     }
