@@ -1,6 +1,7 @@
 //! The profile, the zones and the calls of a box, as docs/REFERENCE.md tells them.
 //! The words live in a memory as the reference wants it; all working out is done on rows outside of it.
 
+use crate::accesses::{self, Access};
 use crate::memory::Memory;
 use crate::rows::{self, Row};
 
@@ -61,17 +62,26 @@ impl Profile {
         self.row_place() + self.row_words()
     }
 
+    pub fn key_address(&self) -> u32 {
+        self.in_words()
+    }
+
     pub fn out_words(&self) -> u32 {
         2 * self.row_words()
     }
 
     pub fn out_address(&self) -> u32 {
-        self.in_words() + 2 * self.d
+        self.key_address() + 2 * self.d
+    }
+
+    /// Where row i of WORK lies.
+    pub fn work_row(&self, i: u32) -> u32 {
+        self.out_address() + self.out_words() + i * self.row_words()
     }
 
     /// N: the words of all zones together.
     pub fn all_words(&self) -> u32 {
-        self.out_address() + self.out_words() + 12 * self.row_words()
+        self.work_row(12)
     }
 }
 
@@ -111,12 +121,22 @@ impl<M: Memory> KeyBox<M> {
     }
 
     /// Answers the rotations.
+    pub fn load(&mut self) -> Result<u32, Fault> {
+        self.sized()?;
+        let before = self.memory.hear();
+        let result = self.load_key();
+        let verdict = result.map_or_else(|fault| fault.number, |_| 0);
+        self.hear_instead(before, &accesses::load(&self.profile, verdict));
+        result
+    }
+
+    /// Answers the rotations.
     pub fn seal(&mut self) -> Result<u32, Fault> {
         self.sized()?;
-        let given: Vec<u32> = (0..self.profile.in_words()).map(|a| self.memory.get(a)).collect();
+        let given = self.given();
         let positions = &given[..self.profile.t as usize];
         let row = &given[self.profile.row_place() as usize..];
-        self.judge_positions(positions)?;
+        self.judge_errors(positions)?;
         if rows::has_tail(self.profile.r as usize, row) {
             return Err(input_fault(12, self.profile.in_words() - 1));
         }
@@ -138,15 +158,66 @@ impl<M: Memory> KeyBox<M> {
         Ok(())
     }
 
+    fn given(&mut self) -> Vec<u32> {
+        (0..self.profile.in_words()).map(|a| self.memory.get(a)).collect()
+    }
+
+    fn load_key(&mut self) -> Result<u32, Fault> {
+        let (r, d) = (self.profile.r as usize, self.profile.d as usize);
+        let given = self.given();
+        let positions = &given[..2 * d];
+        let row = &given[self.profile.row_place() as usize..];
+        self.judge_key(positions)?;
+        if rows::has_tail(r, row) {
+            return Err(input_fault(8, self.profile.in_words() - 1));
+        }
+        let inverse = Row::from_words(r, row);
+        if inverse.product(&indices(&positions[..d])) != Row::with_bits(r, &[0]) {
+            return Err(input_fault(9, self.profile.row_place()));
+        }
+        for (i, &position) in positions.iter().enumerate() {
+            self.memory.put(self.profile.key_address() + i as u32, position);
+        }
+        self.publish(&inverse.product(&indices(&positions[d..])).words());
+        Ok(2 * self.profile.d)
+    }
+
+    /// The positions of both halves are held to the range before any is looked for twice; the same position may stand in both halves.
+    fn judge_key(&self, positions: &[u32]) -> Result<(), Fault> {
+        let d = self.profile.d;
+        let (first, second) = positions.split_at(d as usize);
+        if let Some(place) = first_beyond(positions, self.profile.r) {
+            return Err(input_fault(6, place));
+        }
+        match first_again(first).or(first_again(second).map(|i| d + i)) {
+            Some(place) => Err(input_fault(7, place)),
+            None => Ok(()),
+        }
+    }
+
     /// Every position is held to the range before any is looked for twice.
-    fn judge_positions(&self, positions: &[u32]) -> Result<(), Fault> {
-        if let Some(i) = positions.iter().position(|&p| p >= 2 * self.profile.r) {
-            return Err(input_fault(10, i as u32));
+    fn judge_errors(&self, positions: &[u32]) -> Result<(), Fault> {
+        if let Some(place) = first_beyond(positions, 2 * self.profile.r) {
+            return Err(input_fault(10, place));
         }
-        if let Some(i) = (0..positions.len()).find(|&i| positions[..i].contains(&positions[i])) {
-            return Err(input_fault(11, i as u32));
+        match first_again(positions) {
+            Some(place) => Err(input_fault(11, place)),
+            None => Ok(()),
         }
-        Ok(())
+    }
+
+    /// Makes the trail what these accesses, and no others, make of the one before. No word changes.
+    fn hear_instead(&mut self, before: u32, made: &[Access]) {
+        let words: Vec<u32> = (0..self.profile.all_words()).map(|a| self.memory.get(a)).collect();
+        self.memory.resume(before);
+        for &access in made {
+            match access {
+                Access::Get(a) => {
+                    self.memory.get(a);
+                }
+                Access::Put(a) => self.memory.put(a, words[a as usize]),
+            }
+        }
     }
 
     /// OUT becomes these words and zeros after them, and IN zero.
@@ -166,10 +237,23 @@ impl<M: Memory> KeyBox<M> {
     }
 }
 
+fn indices(positions: &[u32]) -> Vec<usize> {
+    positions.iter().map(|&p| p as usize).collect()
+}
+
+/// The first place whose word is not below the limit.
+fn first_beyond(words: &[u32], limit: u32) -> Option<u32> {
+    words.iter().position(|&word| word >= limit).map(|i| i as u32)
+}
+
+/// The first place whose word stands at an earlier one.
+fn first_again(words: &[u32]) -> Option<u32> {
+    (0..words.len()).find(|&i| words[..i].contains(&words[i])).map(|i| i as u32)
+}
+
 /// The sum of the first half's bits and of the row's rotations by the second half's.
 fn public_syndrome(r: usize, positions: &[u32], row: &[u32]) -> Row {
-    let positions = positions.iter().map(|&p| p as usize);
-    let (first, second): (Vec<usize>, Vec<usize>) = positions.partition(|&p| p < r);
+    let (first, second): (Vec<usize>, Vec<usize>) = indices(positions).into_iter().partition(|&p| p < r);
     let second: Vec<usize> = second.iter().map(|p| p - r).collect();
     let mut syndrome = Row::with_bits(r, &first);
     syndrome.add(&Row::from_words(r, row).product(&second));

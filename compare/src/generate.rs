@@ -3,8 +3,9 @@
 
 use crate::device::Profile;
 use crate::edges::MALFORMED;
+use crate::keys;
 use crate::random::Random;
-use crate::text::{Script, SealInput};
+use crate::text::{Given, Script};
 
 /// Scripts stop growing here, so that what is added last still counts.
 const ENOUGH_BYTES: usize = 45_000;
@@ -40,20 +41,50 @@ fn profile_line(random: &mut Random, profile: &Profile) -> String {
     line
 }
 
-/// Distinct positions, the ends of the halves among them more often than chance would have it.
-fn positions(random: &mut Random, profile: &Profile) -> Vec<u32> {
-    let (r, t) = (profile.r, profile.t as usize);
-    let mut positions: Vec<u32> = Vec::new();
-    while positions.len() < t {
-        let p = match random.between(1, 10) {
-            1 => *random.pick(&[0, r - 1, r, 2 * r - 1]),
-            _ => random.between(0, 2 * r - 1),
-        };
-        // where nearly all are taken, the next one that is free
-        let free = (0..2 * r).map(|step| (p + step) % (2 * r)).find(|q| !positions.contains(q));
-        positions.extend(free);
+/// The call that reads what is given.
+#[derive(Clone, Copy, PartialEq, Eq)]
+enum Reader {
+    Load,
+    Seal,
+}
+
+impl Reader {
+    fn letter(self) -> &'static str {
+        match self {
+            Reader::Load => "L",
+            Reader::Seal => "S",
+        }
     }
-    positions
+
+    /// Positions are below this.
+    fn limit(self, profile: &Profile) -> u32 {
+        match self {
+            Reader::Load => profile.r,
+            Reader::Seal => 2 * profile.r,
+        }
+    }
+
+    /// How many lists of positions are read, and how long each is. No position stands twice in one of them.
+    fn lists(self, profile: &Profile) -> (u32, u32) {
+        match self {
+            Reader::Load => (2, profile.d),
+            Reader::Seal => (1, profile.t),
+        }
+    }
+
+    /// Something that is granted. There may be no key.
+    fn lawful(self, random: &mut Random, profile: &Profile) -> Option<Given> {
+        match self {
+            Reader::Load => keys::key(random, profile),
+            Reader::Seal => Some(Given { positions: errors(random, profile), row: row(random, profile) }),
+        }
+    }
+}
+
+/// Positions for a seal, the ends of the halves among them more often than chance would have it.
+fn errors(random: &mut Random, profile: &Profile) -> Vec<u32> {
+    let r = profile.r;
+    random.distinct(profile.t, 2 * r, &[0, r - 1, r, 2 * r - 1])
 }
 
 fn row(random: &mut Random, profile: &Profile) -> Vec<u32> {
@@ -73,43 +104,54 @@ fn row(random: &mut Random, profile: &Profile) -> Vec<u32> {
     row
 }
 
-fn lawful(random: &mut Random, profile: &Profile) -> SealInput {
-    SealInput { positions: positions(random, profile), row: row(random, profile) }
+/// What a load may read that is in range and no key: mostly the row is no inverse.
+fn no_key(random: &mut Random, profile: &Profile) -> Given {
+    let positions = [keys::half(random, profile), keys::half(random, profile)].concat();
+    Given { positions, row: row(random, profile) }
 }
 
-/// What can be wrong with what a seal reads.
+/// What can be wrong with what is given.
 #[derive(Clone, Copy, PartialEq, Eq)]
 enum Flaw {
     Beyond,
     Twice,
     Tail,
+    NoInverse,
 }
 
 impl Flaw {
-    const ALL: [Flaw; 3] = [Flaw::Beyond, Flaw::Twice, Flaw::Tail];
+    const ALL: [Flaw; 4] = [Flaw::Beyond, Flaw::Twice, Flaw::Tail, Flaw::NoInverse];
 
-    fn possible(self, profile: &Profile) -> bool {
+    fn possible(self, profile: &Profile, reader: Reader) -> bool {
         match self {
             Flaw::Beyond => true,
-            Flaw::Twice => profile.t > 1,
+            Flaw::Twice => reader.lists(profile).1 > 1,
             Flaw::Tail => profile.r % 32 != 0,
+            Flaw::NoInverse => reader == Reader::Load,
         }
     }
 
-    fn spoil(self, random: &mut Random, profile: &Profile, input: &mut SealInput) {
+    fn spoil(self, random: &mut Random, profile: &Profile, reader: Reader, input: &mut Given) {
+        let (lists, length) = reader.lists(profile);
         match self {
             Flaw::Beyond => {
-                let beyond = 2 * profile.r;
-                let place = random.between(0, profile.t - 1) as usize;
+                let beyond = reader.limit(profile);
+                let place = random.between(0, lists * length - 1) as usize;
                 input.positions[place] = *random.pick(&[beyond, beyond, beyond + 1, u32::MAX, 1 << 31, 1 << 16]).max(&beyond);
             }
             Flaw::Twice => {
-                let later = random.between(1, profile.t - 1);
-                input.positions[later as usize] = input.positions[random.between(0, later - 1) as usize];
+                let first = length * random.between(0, lists - 1);
+                let later = random.between(1, length - 1);
+                let earlier = random.between(0, later - 1);
+                input.positions[(first + later) as usize] = input.positions[(first + earlier) as usize];
             }
             Flaw::Tail => {
                 let last = input.row.len() - 1;
                 input.row[last] |= 1 << random.between(profile.r % 32, 31);
+            }
+            Flaw::NoInverse => {
+                let bit = random.between(0, profile.r - 1);
+                input.row[bit as usize / 32] ^= 1 << (bit % 32);
             }
         }
     }
@@ -153,7 +195,8 @@ fn wrong_start(random: &mut Random, profile: &Profile) -> Vec<u8> {
 
 fn step(random: &mut Random, profile: &Profile, script: &mut Script) {
     match random.between(1, 10) {
-        1..=5 => seal(random, profile, script),
+        1..=3 => give_and_call(random, profile, Reader::Seal, script),
+        4..=5 => give_and_call(random, profile, Reader::Load, script),
         6 => {
             script.line("W");
             takes(random, profile, script);
@@ -172,24 +215,31 @@ fn step(random: &mut Random, profile: &Profile, script: &mut Script) {
     }
 }
 
-/// Gives what a seal reads, with flaws or without, seals, and looks at what came out.
-fn seal(random: &mut Random, profile: &Profile, script: &mut Script) {
-    let good = lawful(random, profile);
-    let mut input = good.clone();
+/// Gives what a call reads, with flaws or without, makes the call, and looks at what came out.
+fn give_and_call(random: &mut Random, profile: &Profile, reader: Reader, script: &mut Script) {
+    let good = reader.lawful(random, profile);
+    let mut input = good.clone().unwrap_or_else(|| no_key(random, profile));
     for flaw in Flaw::ALL {
-        while flaw.possible(profile) && random.chance(15) {
-            flaw.spoil(random, profile, &mut input);
+        while flaw.possible(profile, reader) && random.chance(10) {
+            flaw.spoil(random, profile, reader, &mut input);
         }
     }
     script.give_input(profile, &input);
     if random.chance(30) {
-        // a place of IN that no seal reads, unless the positions reach up to the row
+        // a place of IN that the call does not read, unless the positions reach up to the row
         script.give(profile.row_place() - 1, random.word() % profile.r);
     }
-    script.lines(["S", "H"]);
+    script.lines([reader.letter(), "H"]);
     takes(random, profile, script);
+    let Some(good) = good else { return };
     if random.chance(25) {
         script.give_input(profile, &good);
+        script.line(reader.letter());
+        takes(random, profile, script);
+    }
+    if reader == Reader::Load && random.chance(50) {
+        let input = Given { positions: errors(random, profile), row: keys::public_row(profile, &good) };
+        script.give_input(profile, &input);
         script.line("S");
         takes(random, profile, script);
     }
@@ -215,13 +265,14 @@ fn line(random: &mut Random, profile: &Profile) -> Vec<u8> {
         2 => random.between(0, profile.in_words()),
         _ => edge,
     };
-    let text = match random.between(1, 12) {
+    let text = match random.between(1, 13) {
         1..=4 => format!("G {place} {:08x}", random.word()),
         5..=7 => format!("T {place}"),
         8 => format!("T {place:010}"),
         9 => format!("G {place:010} {:08x}", random.between(0, 2 * profile.r)),
         10 => "H".to_string(),
         11 => "S".to_string(),
+        12 => "L".to_string(),
         _ => "W".to_string(),
     };
     text.into_bytes()
@@ -266,11 +317,17 @@ pub fn pair(random: &mut Random) -> [Vec<u8>; 2] {
         if scripts[0].bytes.len() > ENOUGH_BYTES {
             break;
         }
-        let flaw = *random.pick(&[None, None, None, Some(Flaw::Beyond), Some(Flaw::Twice), Some(Flaw::Tail)]);
+        let reader = *random.pick(&[Reader::Load, Reader::Seal]);
+        let Some(inputs) = pair_of_inputs(random, &profile, reader) else { continue };
+        let flaw = if random.chance(50) { Some(*random.pick(&Flaw::ALL)) } else { None };
         let place = random.between(0, profile.out_words());
         let wipes = random.chance(20);
-        for script in &mut scripts {
-            paired_step(random, &profile, script, flaw.filter(|flaw| flaw.possible(&profile)));
+        for (script, mut input) in scripts.iter_mut().zip(inputs) {
+            if let Some(flaw) = flaw.filter(|flaw| flaw.possible(&profile, reader)) {
+                flaw.spoil(random, &profile, reader, &mut input);
+            }
+            script.give_input(&profile, &input);
+            script.lines(["H", reader.letter(), "H"]);
             script.lines([&format!("T {place}")[..], "H"]);
             if wipes {
                 script.lines(["W", "H"]);
@@ -280,11 +337,10 @@ pub fn pair(random: &mut Random) -> [Vec<u8>; 2] {
     scripts.map(|script| script.bytes)
 }
 
-fn paired_step(random: &mut Random, profile: &Profile, script: &mut Script, flaw: Option<Flaw>) {
-    let mut input = lawful(random, profile);
-    if let Some(flaw) = flaw {
-        flaw.spoil(random, profile, &mut input);
+/// Two inputs with the same verdict: both are granted or, where no half has an inverse, refused by 9.
+fn pair_of_inputs(random: &mut Random, profile: &Profile, reader: Reader) -> Option<[Given; 2]> {
+    if reader == Reader::Load && profile.d % 2 == 0 {
+        return Some([no_key(random, profile), no_key(random, profile)]);
     }
-    script.give_input(profile, &input);
-    script.lines(["H", "S", "H"]);
+    Some([reader.lawful(random, profile)?, reader.lawful(random, profile)?])
 }

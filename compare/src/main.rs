@@ -6,12 +6,15 @@
 //!
 //! The last line is `N passed, M failed`, and the status is 1 where anything failed.
 
+mod accesses;
 mod device;
 mod edges;
 mod generate;
+mod keys;
 mod memory;
 mod program;
 mod random;
+mod ring;
 mod rows;
 mod run;
 mod script;

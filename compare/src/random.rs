@@ -36,6 +36,21 @@ impl Random {
         self.between(1, 100) <= percent
     }
 
+    /// So many different numbers below the limit, those of `often` among them more often than chance would have it.
+    pub fn distinct(&mut self, count: u32, limit: u32, often: &[u32]) -> Vec<u32> {
+        let mut numbers: Vec<u32> = Vec::new();
+        while numbers.len() < count as usize {
+            let n = match self.between(1, 10) {
+                1 => *self.pick(often),
+                _ => self.between(0, limit - 1),
+            };
+            // where nearly all are taken, the next one that is free
+            let free = (0..limit).map(|step| (n + step) % limit).find(|m| !numbers.contains(m));
+            numbers.extend(free);
+        }
+        numbers
+    }
+
     pub fn pick<'a, T>(&mut self, items: &'a [T]) -> &'a T {
         &items[self.between(0, items.len() as u32 - 1) as usize]
     }

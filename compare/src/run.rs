@@ -1,6 +1,7 @@
 //! Runs the program on all scripts and holds what it prints, line by line, to what the second implementation predicts.
 
 use std::collections::BTreeMap;
+use std::fmt::Display;
 
 use crate::edges::edges;
 use crate::generate;
@@ -12,7 +13,9 @@ use crate::worked;
 /// Of the random cases one in so many is a pair of scripts.
 const PAIR_EVERY: u64 = 4;
 /// The refusals that a script can meet: each of them must have come up.
-const REFUSALS: [u32; 7] = [1, 3, 10, 11, 12, 20, 21];
+const REFUSALS: [u32; 11] = [1, 3, 6, 7, 8, 9, 10, 11, 12, 20, 21];
+/// The lines that can be granted: each of them must have been.
+const GRANTS: &[u8] = b"PGTLSWH";
 /// A program that hangs would else take hours.
 const ENOUGH_FAILURES: u64 = 10;
 const CONVERSATION: [&str; 7] = ["P 7 3 1 3", "G 0 00000008", "G 6 00000058", "S", "T 0", "X", "H"];
@@ -37,12 +40,13 @@ pub fn cases(seed: u64, random_cases: u64) -> impl Iterator<Item = Case> {
     edges.chain(random)
 }
 
-/// What passed and failed so far, and how often each refusal came up.
+/// What passed and failed so far, and how often each refusal came up, and a grant of each letter.
 #[derive(Default)]
 pub struct Tally {
     pub passed: u64,
     pub failed: u64,
     refusals: BTreeMap<u32, u64>,
+    grants: BTreeMap<char, u64>,
 }
 
 impl Tally {
@@ -56,15 +60,18 @@ impl Tally {
         }
     }
 
-    fn note(&mut self, seen: &Seen) {
-        for &verdict in seen.verdicts.iter().filter(|&&verdict| verdict != 0) {
-            *self.refusals.entry(verdict).or_default() += 1;
+    fn note(&mut self, script: &[u8], seen: &Seen) {
+        for (line, &verdict) in lines(script).into_iter().zip(&seen.verdicts) {
+            if verdict != 0 {
+                *self.refusals.entry(verdict).or_default() += 1;
+            } else if let Some(&letter) = line.first() {
+                *self.grants.entry(char::from(letter)).or_default() += 1;
+            }
         }
     }
 
     fn all_refusals_met(&self) -> Result<(), String> {
-        let met: Vec<String> = self.refusals.iter().map(|(number, times)| format!("{number}: {times}")).collect();
-        println!("refusals met ({})", met.join(", "));
+        println!("refusals met ({})", counted(&self.refusals));
         let missing: Vec<u32> = REFUSALS.into_iter().filter(|number| !self.refusals.contains_key(number)).collect();
         if missing.is_empty() {
             Ok(())
@@ -72,6 +79,19 @@ impl Tally {
             Err(format!("none by {missing:?}"))
         }
     }
+
+    fn all_grants_met(&self) -> Result<(), String> {
+        println!("grants met ({})", counted(&self.grants));
+        match GRANTS.iter().find(|&&letter| !self.grants.contains_key(&char::from(letter))) {
+            Some(&letter) => Err(format!("none of {}", char::from(letter))),
+            None => Ok(()),
+        }
+    }
+}
+
+fn counted<K: Display>(times: &BTreeMap<K, u64>) -> String {
+    let met: Vec<String> = times.iter().map(|(what, times)| format!("{what}: {times}")).collect();
+    met.join(", ")
 }
 
 /// Runs everything, or as much as it takes to see that the program fails.
@@ -93,6 +113,7 @@ pub fn run(program: &Program, seed: u64, random_cases: u64) -> Tally {
         first += case.scripts.len();
     }
     tally.count("refusals met", tally.all_refusals_met());
+    tally.count("grants met", tally.all_grants_met());
     tally
 }
 
@@ -107,7 +128,7 @@ fn judge(program: &Program, case: &Case, tally: &mut Tally) -> Result<(), String
     for (i, script) in case.scripts.iter().enumerate() {
         let seen = program.output(script).and_then(|output| compare(script, &output));
         let seen = seen.map_err(|message| if i == 0 { message } else { format!("{message} (in the second script)") })?;
-        tally.note(&seen);
+        tally.note(script, &seen);
         runs.push(seen);
     }
     runs.windows(2).try_for_each(|pair| alike(&pair[0], &pair[1]))

@@ -25,6 +25,7 @@ pub enum Line {
 pub enum Call {
     Give(u32, u32),
     Take(u32),
+    Load,
     Seal,
     Wipe,
     Hear,
@@ -44,6 +45,7 @@ impl Line {
             }
             [b"G", place, given] => Some(Line::Call(Call::Give(number(place)?, word(given)?))),
             [b"T", place] => Some(Line::Call(Call::Take(number(place)?))),
+            [b"L"] => Some(Line::Call(Call::Load)),
             [b"S"] => Some(Line::Call(Call::Seal)),
             [b"W"] => Some(Line::Call(Call::Wipe)),
             [b"H"] => Some(Line::Call(Call::Hear)),
@@ -157,6 +159,7 @@ impl Session {
         let text = match call {
             Call::Give(place, word) => opened.give(place, word).map(|()| "ok".to_string())?,
             Call::Take(place) => opened.take(place).map(|word| format!("ok {word:08x}"))?,
+            Call::Load => opened.load().map(|rotations| format!("ok {rotations}"))?,
             Call::Seal => opened.seal().map(|rotations| format!("ok {rotations}"))?,
             Call::Wipe => opened.wipe().map(|()| "ok".to_string())?,
             Call::Hear => match opened.memory().hear() {

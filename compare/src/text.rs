@@ -2,9 +2,9 @@
 
 use crate::device::Profile;
 
-/// What a seal reads: its positions and its row.
+/// What a load or a seal reads in IN: positions from place 0 on, and a row at its place.
 #[derive(Clone)]
-pub struct SealInput {
+pub struct Given {
     pub positions: Vec<u32>,
     pub row: Vec<u32>,
 }
@@ -44,8 +44,8 @@ impl Script {
         }
     }
 
-    /// Gives all that a seal reads.
-    pub fn give_input(&mut self, profile: &Profile, input: &SealInput) {
+    /// Gives all that a load or a seal reads.
+    pub fn give_input(&mut self, profile: &Profile, input: &Given) {
         self.give_all(0, &input.positions);
         self.give_all(profile.row_place(), &input.row);
     }

@@ -3,6 +3,7 @@
 
 use crate::device::{Fault, KeyBox, Profile};
 use crate::memory::{Memory, Scrambler, Tape, Window};
+use crate::ring::inverse;
 use crate::rows::{has_tail, Row};
 use crate::script::{lines, Session};
 
@@ -10,7 +11,7 @@ use crate::script::{lines, Session};
 type Check = (&'static str, bool);
 
 pub fn checks() -> Vec<Check> {
-    [rows(), seals(), memories(), boxes(), scripts()].concat()
+    [rows(), inverses(), loads(), seals(), memories(), boxes(), scripts()].concat()
 }
 
 fn rows() -> Vec<Check> {
@@ -27,6 +28,47 @@ fn rows() -> Vec<Check> {
         ("no tail bit", !has_tail(7, &[0x7f]) && !has_tail(32, &[u32::MAX]) && !has_tail(33, &[u32::MAX, 1])),
         ("a tail bit", has_tail(7, &[0x80]) && has_tail(31, &[1 << 31]) && has_tail(33, &[0, 1 << 31])),
     ]
+}
+
+fn inverses() -> Vec<Check> {
+    let unit = |r, h: &[usize]| inverse(r, h).is_some_and(|f| Row::from_words(r, &f).product(h) == Row::with_bits(r, &[0]));
+    vec![
+        ("the inverse of h0", inverse(7, &[0, 1, 2]) == Some(vec![0x6d])),
+        ("a row of even weight has no inverse", inverse(7, &[0, 1]).is_none() && inverse(64, &[0, 1, 5, 9]).is_none()),
+        ("{0, 1, 2} has no inverse at r 6", inverse(6, &[0, 1, 2]).is_none()),
+        ("all of an odd row has no inverse", inverse(7, &[0, 1, 2, 3, 4, 5, 6]).is_none()),
+        ("one bit has an inverse", unit(3, &[2]) && unit(16_000, &[15_999]) && unit(63, &[0])),
+        ("odd weight has an inverse at powers of two", unit(32, &[0, 1, 31]) && unit(64, &[3, 5, 6, 7, 8]) && unit(128, &[0, 1, 127])),
+    ]
+}
+
+const KEY: [u32; 6] = [0, 1, 2, 0, 1, 3];
+
+fn loads() -> Vec<Check> {
+    let refused = |number, place| Err(Fault { number, layer: "input", place });
+    vec![
+        ("the key is loaded", loaded(KEY, 0x6d) == Ok((6, 0x58, 0))),
+        ("position 6 is taken", loaded([0, 1, 2, 0, 1, 6], 0x6d) == Ok((6, 0x40, 0))),
+        ("position 7 is refused", loaded([0, 1, 2, 0, 1, 7], 0x6d) == refused(6, 5)),
+        ("the first position out of range", loaded([0, 8, 2, 7, 0, 7], 0x80) == refused(6, 1)),
+        ("a position twice in the first half", loaded([0, 1, 0, 3, 3, 3], 0x80) == refused(7, 2)),
+        ("a position twice in the second half", loaded([0, 1, 2, 0, 3, 3], 0x80) == refused(7, 5)),
+        ("the halves may share positions", loaded([0, 1, 2, 2, 1, 0], 0x6d) == Ok((6, 0x01, 0))),
+        ("a tail bit", loaded(KEY, 0xed) == refused(8, 6)),
+        ("another row", loaded(KEY, 0x6c) == refused(9, 6)),
+        ("the halves exchanged", loaded([0, 1, 3, 0, 1, 2], 0x6d) == refused(9, 6)),
+    ]
+}
+
+/// The rotations and the two words of OUT when a key is loaded.
+fn loaded(positions: [u32; 6], row: u32) -> Result<(u32, u32, u32), Fault> {
+    let mut opened = KeyBox::open(Profile { r: 7, d: 3, t: 1 }, Tape::new());
+    for (i, position) in positions.into_iter().enumerate() {
+        opened.give(i as u32, position)?;
+    }
+    opened.give(6, row)?;
+    let rotations = opened.load()?;
+    Ok((rotations, opened.take(0)?, opened.take(1)?))
 }
 
 fn seals() -> Vec<Check> {
@@ -89,7 +131,11 @@ fn boxes() -> Vec<Check> {
         ("27 words are enough", small(27).seal() == Ok(1)),
         (
             "26 words are too few",
-            small(26).seal() == too_small && small(26).wipe().is_err() && small(26).give(9, 0).is_err() && small(26).take(0).is_err(),
+            small(26).seal() == too_small
+                && small(26).load() == too_small
+                && small(26).wipe().is_err()
+                && small(26).give(9, 0).is_err()
+                && small(26).take(0).is_err(),
         ),
         ("a box that is too small accesses nothing", small(26).memory().hear() == 0),
         ("ranges", Profile::set(&[2, 1, 1, 1]).is_err() && Profile::set(&[3, 1, 1, 1]).is_ok()),
@@ -97,9 +143,9 @@ fn boxes() -> Vec<Check> {
     ]
 }
 
-const SCRIPT: &str = "P 7 3 1 3\nG 0 00000008\nG 6 00000058\nS\nT 0\nG 0 0000000e\nS\nG 6 00000080\nS\nT 2\nL\nP 7 3 1 3\nW\nT 0";
+const SCRIPT: &str = "P 7 3 1 3\nG 0 00000008\nG 6 00000058\nS\nT 0\nG 0 0000000e\nS\nG 6 00000080\nS\nT 2\nL\nU\nP 7 3 1 3\nW\nT 0";
 const PRINTED: &str =
-    "ok|ok|ok|ok 1|ok 00000031|ok|no 10 input 0 7|ok|no 10 input 0 9|no 3 box 2 10|no 20 line 0 11|no 20 line 0 12|ok|ok 00000000";
+    "ok|ok|ok|ok 1|ok 00000031|ok|no 10 input 0 7|ok|no 10 input 0 9|no 3 box 2 10|no 6 input 0 11|no 20 line 0 12|no 20 line 0 13|ok|ok 00000000";
 
 fn scripts() -> Vec<Check> {
     vec![
