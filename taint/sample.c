@@ -1,7 +1,7 @@
 /* A stand-in for the compiled box, to show that the harness sees what it is there to see.
  * As it stands it uses secrets by masks alone. Each value of LEAK from 1 on brings in one leak that the harness must report:
  * 1 a branch on a position, 2 an address made from one, 3 a check that ends at the first offending place, 4 a digit that decides whether a row is moved,
- * 5 a branch on a word of the row, 6 a number of turns that depends on a position. */
+ * 5 a branch on a word of the row, 6 a number of turns that depends on a position, 7 a comparison of rows that ends at the first word that differs. */
 
 #include <stddef.h>
 #include <stdint.h>
@@ -10,8 +10,9 @@
 #define LEAK 0
 #endif
 
-uint32_t sealed(uint32_t *words, size_t words_len, const uint32_t *positions, size_t positions_len, const uint32_t *row, size_t row_len,
-                uint32_t r, uint32_t d, uint32_t t);
+typedef uint32_t call(uint32_t *words, size_t words_len, const uint32_t *positions, size_t positions_len, const uint32_t *row, size_t row_len,
+                      uint32_t r, uint32_t d, uint32_t t);
+call loaded, sealed;
 
 /* Keeps the compiler from turning a leak into a mask, or a mask into a branch. */
 static uint32_t opaque(uint32_t x)
@@ -42,7 +43,7 @@ static uint32_t first_beyond(const uint32_t *p, uint32_t t, uint32_t limit)
     return first;
 }
 
-/* The first place whose word stands earlier, else t. */
+/* The first of t places whose word stands earlier, else t. */
 static uint32_t first_twice(const uint32_t *p, uint32_t t)
 {
     uint32_t first = t;
@@ -93,17 +94,35 @@ static void add_position(uint32_t *row, uint32_t *work, uint32_t *sum, uint32_t 
         sum[i] ^= work[i];
 }
 
-uint32_t sealed(uint32_t *words, size_t words_len, const uint32_t *positions, size_t positions_len, const uint32_t *row, size_t row_len,
-                uint32_t r, uint32_t d, uint32_t t)
+/* Opens the box and gives the words. */
+static void give(uint32_t *words, size_t words_len, const uint32_t *positions, size_t positions_len, const uint32_t *row, size_t row_len, uint32_t place)
 {
-    uint32_t w = (r + 31) / 32, place = 2 * d > t ? 2 * d : t;
-    uint32_t *out = words + place + w + 2 * d;
     for (size_t i = 0; i < words_len; i++)
         words[i] = 0;
     for (size_t i = 0; i < positions_len; i++)
         words[i] = positions[i];
     for (size_t i = 0; i < row_len; i++)
         words[place + i] = row[i];
+}
+
+/* Whether a row is bit 0 alone. */
+static uint32_t is_unit(const uint32_t *row, uint32_t w)
+{
+    uint32_t differences = 0;
+    for (uint32_t i = 0; i < w; i++) {
+        if (LEAK == 7 && opaque(row[i]) != (i == 0))
+            return 0;
+        differences |= row[i] ^ (i == 0);
+    }
+    return differences == 0;
+}
+
+uint32_t sealed(uint32_t *words, size_t words_len, const uint32_t *positions, size_t positions_len, const uint32_t *row, size_t row_len,
+                uint32_t r, uint32_t d, uint32_t t)
+{
+    uint32_t w = (r + 31) / 32, place = 2 * d > t ? 2 * d : t;
+    uint32_t *out = words + place + w + 2 * d;
+    give(words, words_len, positions, positions_len, row, row_len, place);
     if (first_beyond(words, t, 2 * r) < t)
         return 10;
     if (first_twice(words, t) < t)
@@ -112,5 +131,31 @@ uint32_t sealed(uint32_t *words, size_t words_len, const uint32_t *positions, si
         return 12;
     for (uint32_t i = 0; i < t; i++)
         add_position(words + place, out + 2 * w, out, r, words[i]);
+    return 0;
+}
+
+uint32_t loaded(uint32_t *words, size_t words_len, const uint32_t *positions, size_t positions_len, const uint32_t *row, size_t row_len,
+                uint32_t r, uint32_t d, uint32_t t)
+{
+    uint32_t w = (r + 31) / 32, place = 2 * d > t ? 2 * d : t;
+    uint32_t *key = words + place + w, *out = key + 2 * d, *work = out + 2 * w, *unit = work + 2 * w;
+    give(words, words_len, positions, positions_len, row, row_len, place);
+    if (first_beyond(words, 2 * d, r) < 2 * d)
+        return 6;
+    uint32_t first = first_twice(words, d), second = first_twice(words + d, d);
+    if (first < d)
+        return 7;
+    if (second < d)
+        return 7;
+    if (r % 32 && words[place + w - 1] >> r % 32)
+        return 8;
+    for (uint32_t i = 0; i < d; i++) {
+        add_position(words + place, work, unit, r, words[i] + r);
+        add_position(words + place, work, out, r, words[d + i] + r);
+    }
+    if (!is_unit(unit, w))
+        return 9;
+    for (uint32_t i = 0; i < 2 * d; i++)
+        key[i] = words[i];
     return 0;
 }

@@ -87,10 +87,11 @@ asked first x ps =
     cond (x == 80) (cond first (then (numbers ps) if_three) None)  -- P
     (cond (x == 71) (giving ps)  -- G
     (cond (x == 84) (taking ps)  -- T
+    (cond (x == 76) (alone (call calls.Load) ps)  -- L
     (cond (x == 83) (alone (call calls.Seal) ps)  -- S
     (cond (x == 87) (alone (call calls.Wipe) ps)  -- W
     (cond (x == 72) (alone hear ps)  -- H
-    None)))))
+    None))))))
 
 -- what a line asks for. None: it is malformed, as every line of more than 120 bytes is
 abbrev pub meaning : Bool → List ℕ → Option Request

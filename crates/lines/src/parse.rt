@@ -61,6 +61,7 @@ fn asked(letter: u8, parts: Parts, first: bool) -> Option<Command>
         b'P' => Some(Command::Set(setting(parts)?)),
         b'G' => giving(parts),
         b'T' => taking(parts),
+        b'L' => alone(parts, Order::Call(Call::Load)),
         b'S' => alone(parts, Order::Call(Call::Seal)),
         b'W' => alone(parts, Order::Call(Call::Wipe)),
         b'H' => alone(parts, Order::Hear),
