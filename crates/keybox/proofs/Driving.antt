@@ -48,3 +48,10 @@ give_stops g b b' t place i ws f left l did =
     left ∙ at_drop_more (λ us. drive (driven g b (Ok Done)) (gives_from place us)) ws i 0 l
     ∙ ap (λ u. drive u rest) (called_is g b b' (Give place (get_or ws i 0)) (Ok Done) (Err f) did)
     ∙ drive_stopped f _ _ rest
+
+-- a call made after others that were granted is the last of one list
+pub drive_ends : {X : Type 0} (g : Ghosts X) (first before now : KeyBox X) (cs : List Call) (c : Call) (a : Answer)
+    → driven g before (Ok Done) ≡ drive (driven g first (Ok Done)) cs → Does g before now (shape c) a (next (state g before) c)
+    → driven g now a ≡ drive (driven g first (Ok Done)) (cs ++ (c ∷ []))
+drive_ends g first before now cs c a given did =
+    sym (drive_joined (driven g first (Ok Done)) cs (c ∷ []) ∙ ap (λ (t : Driven). drive t (c ∷ [])) (sym given) ∙ called_is g before now c (Ok Done) a did)
