@@ -17,7 +17,7 @@ use Rattle.keybox.specs.declared.call.Call.{Call}
 use Rattle.keybox.specs.declared.call.Call.TheVariants.{Give, Take, Load, Seal, Wipe}
 use Rattle.keybox.specs.declared.call.Grant.TheVariants.{Done, Rotations}
 use Rattle.scheme.specs.Zones.{W, B, in_size, key_at, out_at, work_at, work_size, N}
-use Rattle.keybox.specs.Model.{State, Outcome, small, load_fault, first, when, first_place, again, grants, rested, with_words, load_input_fault, first_half, second_half, is_inverse, public_row, loaded_words, seal_input_fault, public_syndrome, left_half, right_half, sealed_words, wipe_fault, next}
+use Rattle.keybox.specs.Model.{State, Outcome, small, load_fault, first, when, first_place, again, again_place, grants, rested, with_words, load_input_fault, first_half, second_half, is_inverse, public_row, loaded_words, seal_input_fault, public_syndrome, left_half, right_half, sealed_words, wipe_fault, next}
 use Rattle.keybox.specs.Runs.{answers, Forgets}
 use Rattle.keybox.proofs.Granted.{matched, unmatched}
 use Rattle.keybox.proofs.Verdicts.{refusal_number}
@@ -36,16 +36,19 @@ range_front : (p : Profile) (ws : List ℕ) (b n : ℕ) → n ≤ N p
     → first_place (λ i. leb b (get_or ws i 0)) (range_with_len 0 n) ≡ first_place (λ i. leb b (get_or (take (N p) ws) i 0)) (range_with_len 0 n)
 range_front p ws b n h = first_place_same _ _ 0 n (λ i l. ap (leb b) (sym (get_or-take (N p) ws i 0 (omega arith))))
 
+again_front : (p : Profile) (ws : List ℕ) (a n : ℕ) → a + n ≤ N p → again_place ws a n ≡ again_place (take (N p) ws) a n
+again_front p ws a n h = ap (λ xs. option_map (λ i. a + i) (first_place (again xs) (range_with_len 0 n))) (sym (front_part (N p) ws a n h))
+
 load_input_fault_front : (p : Profile) (ws : List ℕ) → load_input_fault p ws ≡ load_input_fault p (take (N p) ws)
 load_input_fault_front p ws =
     let range = range_front p ws p.r (2 * p.d) (omega arith) in
-    let left = sym (front_part (N p) ws 0 p.d (omega arith)) in
-    let right = sym (front_part (N p) ws p.d p.d (omega arith)) in
+    let left = again_front p ws 0 p.d (omega arith) in
+    let right = again_front p ws p.d p.d (omega arith) in
     let tail = sym (front_tail p.r (N p) ws (B p) (omega arith) (omega arith)) in
     λ k. first (
     option_map PositionRange (range k)
-    ∷ option_map PositionTwice (first_place (again (left k)) (range_with_len 0 p.d))
-    ∷ option_map (λ i. PositionTwice (p.d + i)) (first_place (again (right k)) (range_with_len 0 p.d))
+    ∷ option_map PositionTwice (left k)
+    ∷ option_map PositionTwice (right k)
     ∷ option_map InverseTail (when (tail k) (B p + (W p - 1)))
     ∷ [])
 
@@ -71,9 +74,9 @@ loaded_front p ws =
 seal_input_fault_front : (p : Profile) (ws : List ℕ) → seal_input_fault p ws ≡ seal_input_fault p (take (N p) ws)
 seal_input_fault_front p ws =
     let range = range_front p ws (2 * p.r) p.t (omega arith) in
-    let positions = sym (front_part (N p) ws 0 p.t (omega arith)) in
+    let twice = again_front p ws 0 p.t (omega arith) in
     let tail = sym (front_tail p.r (N p) ws (B p) (omega arith) (omega arith)) in
-    λ k. first (option_map ErrorRange (range k) ∷ option_map ErrorTwice (first_place (again (positions k)) (range_with_len 0 p.t)) ∷ option_map PublicTail (when (tail k) (B p + (W p - 1))) ∷ [])
+    λ k. first (option_map ErrorRange (range k) ∷ option_map ErrorTwice (twice k) ∷ option_map PublicTail (when (tail k) (B p + (W p - 1))) ∷ [])
 
 syndrome_front : (p : Profile) (ws : List ℕ)
     → public_syndrome p.r (part ws 0 p.t) (row_at ws (B p)) ≡ public_syndrome p.r (part (take (N p) ws) 0 p.t) (row_at (take (N p) ws) (B p))

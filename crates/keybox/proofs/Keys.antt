@@ -1,12 +1,14 @@
 -- What the checks of a load say of the key that it reads: its words are positions of a row, and none stands twice in its half.
-use Rattle.std.proofs.Common.{◌≡◌, ℕ, ◌+◌, ◌*◌, ◌<◌, leb, List, [], get_or, take, drop, None, ap, ◌∙◌, arith, length-take}
+use Rattle.std.proofs.Common.{List, None, Option, Some, [], ap, arith, drop, false, get_or, leb, length-take, refl, take, ℕ, ◌*◌, ◌+◌, ◌<◌, ◌∙◌, ◌≡◌}
+use Rattle.std.specs.Option.{option_map}
 use Rattle.std.specs.List.{range_with_len, AllByRecursion}
 use Rattle.std.proofs.ByRecursion.{All-from_get_or, All-take, All-drop}
 use Rattle.std.proofs.lemmas.List.{get_or-take, take-take, drop-take}
 use Rattle.std.proofs.lemmas.Bool.{leb-false}
+use Rattle.rows.specs.Fill.{part}
 use Rattle.scheme.specs.declared.profile.Profile.{Profile}
 use Rattle.scheme.specs.declared.fault.InputFault.TheVariants.{PositionRange, PositionTwice, InverseTail}
-use Rattle.keybox.specs.Model.{first_place, again, tail_place, load_input_fault, first_half, second_half}
+use Rattle.keybox.specs.Model.{first_place, again, again_place, tail_place, load_input_fault, first_half, second_half}
 use Rattle.keybox.specs.Runs.{Positions}
 use Rattle.keybox.proofs.Passing.{none_found, all_passed}
 
@@ -20,16 +22,23 @@ second_of n xs = let e : 2 * n ≡ n + n = omega arith in ap (λ m. drop n (take
 -- each of the four checks found nothing
 pub record Passes (p : Profile) (ws : List ℕ) : Type 0 where
   pub range : first_place (λ i. leb p.r (get_or ws i 0)) (range_with_len 0 (2 * p.d)) ≡ None
-  pub one : first_place (again (first_half p ws)) (range_with_len 0 p.d) ≡ None
-  pub two : first_place (again (second_half p ws)) (range_with_len 0 p.d) ≡ None
+  pub one : again_place ws 0 p.d ≡ None
+  pub two : again_place ws p.d p.d ≡ None
   pub tail : tail_place p ws ≡ None
 
 pub load_passes : (p : Profile) (ws : List ℕ) → load_input_fault p ws ≡ None → Passes p ws
 load_passes p ws e =
     let range = all_passed PositionRange (first_place (λ i. leb p.r (get_or ws i 0)) (range_with_len 0 (2 * p.d))) _ e in
-    let one = all_passed PositionTwice (first_place (again (first_half p ws)) (range_with_len 0 p.d)) _ range.1 in
-    let two = all_passed (λ i. PositionTwice (p.d + i)) (first_place (again (second_half p ws)) (range_with_len 0 p.d)) _ one.1 in
+    let one = all_passed PositionTwice (again_place ws 0 p.d) _ range.1 in
+    let two = all_passed PositionTwice (again_place ws p.d p.d) _ one.1 in
     record { range = range.0; one = one.0; two = two.0; tail = (all_passed InverseTail (tail_place p ws) [] two.1).0 }
+
+none_again : (ws : List ℕ) (a n : ℕ) → again_place ws a n ≡ None → (i : ℕ) → i < n → again (part ws a n) i ≡ false
+none_again ws a n e i l = none_found _ 0 n (unmapped _ e) i (omega arith) (omega arith)
+  where
+    unmapped : (o : Option ℕ) → option_map (λ j. a + j) o ≡ None → o ≡ None
+    unmapped None e = refl
+    unmapped (Some j) e = let z : ◌≡◌ {A = ℕ} 0 1 = cc in absurd (omega arith)
 
 -- the words of the key are positions
 pub load_positions : (p : Profile) (ws : List ℕ) → load_input_fault p ws ≡ None → Positions p.r p.d (take (2 * p.d) ws)
@@ -39,8 +48,8 @@ load_positions p ws e =
       below = All-from_get_or (λ q. q < p.r) (take (2 * p.d) ws) 0 (λ i l.
           let k : i < 2 * p.d = omega (arith, length-take (2 * p.d) ws) in
           rw (get_or-take (2 * p.d) ws i 0 k) (leb-false p.r (get_or ws i 0) (none_found _ 0 (2 * p.d) passed.range i (omega arith) (omega arith))));
-      first_once = λ i l. rw (first_of p.d ws) (none_found _ 0 p.d passed.one i (omega arith) (omega arith));
-      second_once = λ i l. rw (second_of p.d ws) (none_found _ 0 p.d passed.two i (omega arith) (omega arith));
+      first_once = λ i l. rw (first_of p.d ws) (none_again ws 0 p.d passed.one i l);
+      second_once = λ i l. rw (second_of p.d ws) (none_again ws p.d p.d passed.two i l);
     }
 
 -- each half of a key

@@ -3,6 +3,7 @@ use Rattle.std.proofs.Common.{◌≡◌, ℕ, zero, suc, ◌+◌, ◌-◌, ◌<�
 use Rattle.std.proofs.lemmas.Bool.Decides.{nat_tests}
 use lib.Bits.{bit_or}
 use Rattle.std.specs.List.{range_with_len}
+use Rattle.std.specs.Option.{option_map}
 use Rattle.memory.specs.Access.{Seen, accessed, get}
 use Rattle.memory.proofs.Traces.{accessed_then}
 use Rattle.memory.proofs.Words.{part_at}
@@ -99,6 +100,30 @@ pair_step s t u v a i p q r =
 pub first_step : (p : ℕ → Bool) (n d : ℕ) (m m' : Option ℕ) → m ≡ first_place p (range_with_len 0 n) → eqb d 1 ≡ p n → m' ≡ or_else m (when (eqb d 1) n)
     → m' ≡ first_place p (range_with_len 0 (n + 1))
 first_step p n d m m' e t f = let a = first_more p n in cc
+
+-- nothing noted later
+pub or_none : (o : Option ℕ) → or_else o None ≡ o
+or_none None = refl
+or_none (Some i) = refl
+
+-- the place in IN of the first of the i words from a on that stands among those before it, where n are looked at
+abbrev pub noted_among : List ℕ → ℕ → ℕ → ℕ → Option ℕ
+noted_among ws a n i = option_map (λ j. a + j) (first_place (again (part ws a n)) (range_with_len 0 i))
+
+-- a loop's step: one place more is noted, by its place in IN
+pub noted_step : (ws : List ℕ) (a n i d : ℕ) (m0 m m' : Option ℕ) → m ≡ or_else m0 (noted_among ws a n i) → eqb d 1 ≡ again (part ws a n) i
+    → m' ≡ or_else m (when (eqb d 1) (a + i)) → m' ≡ or_else m0 (noted_among ws a n (i + 1))
+noted_step ws a n i d m0 m m' e t f =
+    let more = first_more (again (part ws a n)) i in
+    f ∙ ap (λ o. or_else o (when (eqb d 1) (a + i))) e ∙ ap (λ b. or_else (or_else m0 (noted_among ws a n i)) (when b (a + i))) t
+    ∙ joined m0 (first_place (again (part ws a n)) (range_with_len 0 i)) (again (part ws a n) i)
+    ∙ ap (λ o. or_else m0 (option_map (λ j. a + j) o)) (sym more)
+  where
+    joined : (m0 o : Option ℕ) (b : Bool) → or_else (or_else m0 (option_map (λ j. a + j) o)) (when b (a + i)) ≡ or_else m0 (option_map (λ j. a + j) (or_else o (when b i)))
+    joined (Some x) o b = refl
+    joined None (Some x) b = refl
+    joined None None true = refl
+    joined None None false = refl
 
 -- a loop's step: whether a word stands among one word more, as a digit
 pub found_step : (ws : List ℕ) (a w i f x e : ℕ) → a + i < length ws → f ≡ cond (earlier (drop a ws) w i) 1 0 → x ≡ get_or ws (a + i) 0 → e ≡ cond (eqb x w) 1 0

@@ -26,7 +26,7 @@ use Rattle.rows.specs.Sum.{Fits, sum_words, sum_accesses}
 use Rattle.rows.proofs.Products.{parity, OneAt, unit_row, unit_tail, either_words, words_same}
 use Rattle.rows.specs.declared.plan.Plan.{Plan}
 use Rattle.keybox.specs.Accesses.{seal_plan, rest_accesses, publish_accesses, sealed_accesses, seal_check_accesses, seal_accesses}
-use Rattle.keybox.specs.Model.{State, first, when, grants, small, with_words, seal_fault, sealing, first_place, again, tail_place, seal_input_fault, left_half, right_half, public_syndrome, rested, published, sealed_words}
+use Rattle.keybox.specs.Model.{State, first, when, grants, small, with_words, seal_fault, sealing, first_place, again_place, tail_place, seal_input_fault, left_half, right_half, public_syndrome, rested, published, sealed_words}
 use Rattle.scheme.specs.Zones.{W, B, work_at, work_size, work_row, N}
 
 -- the row of bit 0 alone rotated by q has bit q alone
@@ -128,7 +128,7 @@ module _ (p : Profile) (ws : List ℕ) (room : N p ≤ length ws) where
     whole : has_tail p.r ws (B p) ≡ false
     whole =
         let range = first_place (λ i. leb (2 * p.r) (get_or ws i 0)) (range_with_len 0 p.t) in
-        let twice = first_place (again (part ws 0 p.t)) (range_with_len 0 p.t) in
+        let twice = again_place ws 0 p.t in
         let tail = option_map PublicTail (tail_place p ws) ∷ [] in
         unset _ _ (all_passed PublicTail (tail_place p ws) [] (all_passed ErrorTwice twice tail (all_passed ErrorRange range (option_map ErrorTwice twice ∷ tail) passed).1).1).0
 

@@ -59,6 +59,10 @@ earlier (x ∷ xs) w (suc i) = x == w || earlier xs w i
 abbrev pub again : List ℕ → ℕ → Bool
 again xs i = earlier xs (slice_index xs i) i
 
+-- the place of the first of the n words from place a on that stands among those before it
+abbrev pub again_place : List ℕ → ℕ → ℕ → Option ℕ
+again_place ws a n = option_map (λ i. a + i) (first_place (again (part ws a n)) (range_with_len 0 n))
+
 -- a call that is refused leaves the box as it was
 abbrev pub grants : Option BoxFault → State → Outcome → Outcome
 grants None s o = o
@@ -113,8 +117,8 @@ abbrev pub load_input_fault : Profile → List ℕ → Option InputFault
 load_input_fault p ws =
     first (
     option_map PositionRange (first_place (λ i. leb p.r (slice_index ws i)) (range_with_len 0 (2 * p.d)))
-    ∷ option_map PositionTwice (first_place (again (first_half p ws)) (range_with_len 0 p.d))
-    ∷ option_map (λ i. PositionTwice (p.d + i)) (first_place (again (second_half p ws)) (range_with_len 0 p.d))
+    ∷ option_map PositionTwice (again_place ws 0 p.d)
+    ∷ option_map PositionTwice (again_place ws p.d p.d)
     ∷ option_map InverseTail (tail_place p ws)
     ∷ [])
 
@@ -162,7 +166,7 @@ abbrev pub seal_input_fault : Profile → List ℕ → Option InputFault
 seal_input_fault p ws =
     first (
     option_map ErrorRange (first_place (λ i. leb (2 * p.r) (slice_index ws i)) (range_with_len 0 p.t))
-    ∷ option_map ErrorTwice (first_place (again (part ws 0 p.t)) (range_with_len 0 p.t))
+    ∷ option_map ErrorTwice (again_place ws 0 p.t)
     ∷ option_map PublicTail (tail_place p ws)
     ∷ [])
 

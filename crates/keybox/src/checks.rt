@@ -6,7 +6,7 @@ ghost use Rattle.std.specs.Prelude.{◌≡◌, ◌+◌, ◌-◌, ◌<◌, ◌≤
 ghost use Rattle.std.specs.List.{range_with_len};
 ghost use Rattle.memory.specs.Access.{accessed, get as gets};
 ghost use Rattle.rows.specs.Fill.{part};
-ghost use Rattle.keybox.specs.Model.{first_place, earlier, again, when, tail_place};
+ghost use Rattle.keybox.specs.Model.{first_place, again_place, earlier, when, tail_place};
 ghost use Rattle.keybox.specs.Accesses.{read_accesses, pair_accesses};
 ghost use Rattle.scheme.specs.Zones.{W, B};
 ghost use Rattle.keybox.specs.Device.{Roomy};
@@ -45,19 +45,17 @@ fn stands_in<M: Memory>(m: &mut M, at: u32, i: u32, word: u32, one: One) -> Choi
     found
 }
 
-// The first of the n words from `at` on that stands among those before it, told by its place among the n.
+// Notes the first of the n words from `at` on that stands among those before it, by its place in IN.
 // All pairs are compared: a table of the words seen would be looked up at addresses that tell them.
-pub(crate) fn first_again<M: Memory>(m: &mut M, at: u32, n: u32, one: One) -> Option<u32>
+pub(crate) fn note_again<M: Memory>(m: &mut M, at: u32, n: u32, mark: &mut Mark, one: One)
     requires within { at + n ≤ length (M.Memory.seen m.old).words }
-    ensures value { result ≡ first_place (again (part (M.Memory.seen m.old).words at n)) (range_with_len 0 n) }
+    ensures noted { marked mark.new ≡ or_else (marked mark.old) (again_place (M.Memory.seen m.old).words at n) }
     ensures did { M.Memory.seen m.new ≡ accessed (M.Memory.seen m.old) (pair_accesses at n) (M.Memory.seen m.old).words }
 {
-    let mut mark = Mark::none();
     for i in 0..n {
         let word = m.get_within(at + i);
-        mark.note(stands_in(m, at, i, word, one), i);
+        mark.note(stands_in(m, at, i, word, one), at + i);
     }
-    mark.outcome()
 }
 
 // The place of the last word of the row in IN, if it has a bit set past the row's end.

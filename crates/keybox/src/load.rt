@@ -12,8 +12,9 @@ ghost use Rattle.keybox.specs.Loading.{LoadInverts};
 ghost use Rattle.keybox.specs.Accesses.{loads, rest_accesses, load_check_accesses, load_plan, products_accesses, read_accesses, loaded_accesses};
 ghost use Rattle.keybox.specs.Device.{state, rotation_count, checked, input_verdict, Roomy, Does};
 
-use crate::checks::{first_again, first_beyond, tail_set};
+use crate::checks::{first_beyond, note_again, tail_set};
 use crate::device::KeyBox;
+use crate::mark::Mark;
 use crate::work::{publish, rest, work_row};
 use memory::Memory;
 use rows::fill::copy;
@@ -24,7 +25,7 @@ use rows::sum::sum;
 use scheme::fault::{BoxFault, InputFault};
 use scheme::profile::Profile;
 
-// Checks the positions of both halves and the row in IN, word by word. Both halves are looked through before either is refused.
+// Checks the positions of both halves and the row in IN, word by word. Both halves are looked through before one branch refuses either.
 pub(crate) fn check_key<M: Memory>(m: &mut M, profile: &Profile) -> Result<(), InputFault>
     requires { Roomy profile.now (M.Memory.seen m.old).words }
     ensures value { result ≡ checked (load_input_fault profile.now (M.Memory.seen m.old).words) }
@@ -35,13 +36,11 @@ pub(crate) fn check_key<M: Memory>(m: &mut M, profile: &Profile) -> Result<(), I
     if let Some(place) = first_beyond(m, 2 * d, profile.r, one) {
         return Err(InputFault::PositionRange(place));
     }
-    let first = first_again(m, 0, d, one);
-    let second = first_again(m, d, d, one);
-    if let Some(place) = first {
+    let mut twice = Mark::none();
+    note_again(m, 0, d, &mut twice, one);
+    note_again(m, d, d, &mut twice, one);
+    if let Some(place) = twice.outcome() {
         return Err(InputFault::PositionTwice(place));
-    }
-    if let Some(place) = second {
-        return Err(InputFault::PositionTwice(d + place));
     }
     if let Some(place) = tail_set(m, profile) {
         return Err(InputFault::InverseTail(place));

@@ -7,8 +7,9 @@ ghost use Rattle.keybox.specs.Model.{seal_input_fault, sealed_words, sealing};
 ghost use Rattle.keybox.specs.Accesses.{seals, seal_check_accesses, sealed_accesses, seal_plan};
 ghost use Rattle.keybox.specs.Device.{state, rotation_count, checked, input_verdict, Roomy, Does};
 
-use crate::checks::{first_again, first_beyond, tail_set};
+use crate::checks::{first_beyond, note_again, tail_set};
 use crate::device::KeyBox;
+use crate::mark::Mark;
 use crate::work::{publish, rest, work_row};
 use memory::Memory;
 use rows::lanes::Parity;
@@ -28,7 +29,9 @@ pub(crate) fn check_errors<M: Memory>(m: &mut M, profile: &Profile) -> Result<()
     if let Some(place) = first_beyond(m, profile.t, 2 * profile.r, one) {
         return Err(InputFault::ErrorRange(place));
     }
-    if let Some(place) = first_again(m, 0, profile.t, one) {
+    let mut twice = Mark::none();
+    note_again(m, 0, profile.t, &mut twice, one);
+    if let Some(place) = twice.outcome() {
         return Err(InputFault::ErrorTwice(place));
     }
     if let Some(place) = tail_set(m, profile) {

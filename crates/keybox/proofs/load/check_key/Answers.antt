@@ -1,31 +1,16 @@
-use Rattle.std.proofs.Common.{Some, None, refl, arith}
-use Rattle.keybox.proofs.KeyChecks.{place_below, key_value, pairs_did, key_did}
+use Rattle.std.proofs.Common.{Some, None, refl, ◌∙◌}
+use Rattle.keybox.proofs.KeyChecks.{key_value, pairs_did, key_did}
 use Rattle.keybox.proofs.load.check_key.Goals as goal
 
-pub returns-in-Some-first : goal.returns-in-Some-first
-returns-in-Some-first g c =
+pub returns-in-Some-outcome : goal.returns-in-Some-outcome
+returns-in-Some-outcome g c =
     let p = c.args.profile.now in
     let range = c.in_default.ensures.value in
     let t = c.first_beyond.ensures.did in
-    let u = c.first_again-first.ensures.did in
-    let v = c.first_again-second.ensures.did in
+    let u = c.note_again.ensures.did in
+    let v = c.note_again-2.ensures.did in
     record {
-      value = key_value p _ _ _ _ range t u v (Some _) _ _ c.in-Some-first.ensures.value c.first_again-second.ensures.value refl;
-      did = pairs_did p _ _ _ _ range t u v;
-    }
-
-pub overflow_add-result : goal.overflow_add-result
-overflow_add-result g c = omega (arith, place_below _ 0 c.args.profile.now.d _ c.in-Some-second.ensures.value)
-
-pub returns-in-Some-second : goal.returns-in-Some-second
-returns-in-Some-second g c =
-    let p = c.args.profile.now in
-    let range = c.in_default.ensures.value in
-    let t = c.first_beyond.ensures.did in
-    let u = c.first_again-first.ensures.did in
-    let v = c.first_again-second.ensures.did in
-    record {
-      value = key_value p _ _ _ _ range t u v None (Some _) _ c.in_default-first.ensures.value c.in-Some-second.ensures.value refl;
+      value = key_value p _ _ _ _ range t u v _ _ (Some _) _ c.none-twice.ensures c.note_again.ensures.noted (c.in-Some-outcome.ensures ∙ c.note_again-2.ensures.noted) refl;
       did = pairs_did p _ _ _ _ range t u v;
     }
 
@@ -34,10 +19,10 @@ returns-in-Some-tail_set g c =
     let p = c.args.profile.now in
     let range = c.in_default.ensures.value in
     let t = c.first_beyond.ensures.did in
-    let u = c.first_again-first.ensures.did in
-    let v = c.first_again-second.ensures.did in
+    let u = c.note_again.ensures.did in
+    let v = c.note_again-2.ensures.did in
     record {
-      value = key_value p _ _ _ _ range t u v None None (Some _) c.in_default-first.ensures.value c.in_default-second.ensures.value c.in-Some-tail_set.ensures.value;
+      value = key_value p _ _ _ _ range t u v _ _ None (Some _) c.none-twice.ensures c.note_again.ensures.noted (c.in_default-outcome.ensures ∙ c.note_again-2.ensures.noted) c.in-Some-tail_set.ensures.value;
       did = key_did p _ _ _ _ range t u v _ c.tail_set.ensures.did;
     }
 
@@ -46,9 +31,9 @@ returns g c =
     let p = c.args.profile.now in
     let range = c.in_default.ensures.value in
     let t = c.first_beyond.ensures.did in
-    let u = c.first_again-first.ensures.did in
-    let v = c.first_again-second.ensures.did in
+    let u = c.note_again.ensures.did in
+    let v = c.note_again-2.ensures.did in
     record {
-      value = key_value p _ _ _ _ range t u v None None None c.in_default-first.ensures.value c.in_default-second.ensures.value c.in_default-tail_set.ensures.value;
+      value = key_value p _ _ _ _ range t u v _ _ None None c.none-twice.ensures c.note_again.ensures.noted (c.in_default-outcome.ensures ∙ c.note_again-2.ensures.noted) c.in_default-tail_set.ensures.value;
       did = key_did p _ _ _ _ range t u v _ c.tail_set.ensures.did;
     }
