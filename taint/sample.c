@@ -1,7 +1,8 @@
 /* A stand-in for the compiled box, to show that the harness sees what it is there to see.
  * As it stands it uses secrets by masks alone. Each value of LEAK from 1 on brings in one leak that the harness must report:
  * 1 a branch on a position, 2 an address made from one, 3 a check that ends at the first offending place, 4 a digit that decides whether a row is moved,
- * 5 a branch on a word of the row, 6 a number of turns that depends on a position, 7 a comparison of rows that ends at the first word that differs. */
+ * 5 a branch on a word of the row, 6 a number of turns that depends on a position, 7 a comparison of rows that ends at the first word that differs,
+ * 8 a branch that tells the half of a key in which a position stands twice. */
 
 #include <stddef.h>
 #include <stdint.h>
@@ -142,10 +143,9 @@ uint32_t loaded(uint32_t *words, size_t words_len, const uint32_t *positions, si
     give(words, words_len, positions, positions_len, row, row_len, place);
     if (first_beyond(words, 2 * d, r) < 2 * d)
         return 6;
-    uint32_t first = first_twice(words, d), second = first_twice(words + d, d);
-    if (first < d)
+    if (LEAK == 8 && first_twice(words, d) < d)
         return 7;
-    if (second < d)
+    if (opaque(less(first_twice(words, d), d) | less(first_twice(words + d, d), d)))
         return 7;
     if (r % 32 && words[place + w - 1] >> r % 32)
         return 8;
