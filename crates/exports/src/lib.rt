@@ -1,10 +1,11 @@
 // The box over lent words as C functions, so that its compiled code can be run and watched from outside.
-// They add nothing to the box: the promises are those of `load_words` and `seal_words`.
+// They add nothing to the box: the promise is that of `call_words`.
 
 #![tactic(auto)]
 
-use keybox::lent::{Input, load_words, seal_words};
-use scheme::fault::{BoxFault, Fault, ProfileFault};
+use keybox::call::Call;
+use keybox::lent::{Input, call_words};
+use scheme::fault::{Fault, ProfileFault};
 use scheme::profile::Profile;
 
 // The profile r, d, t with one threshold.
@@ -14,15 +15,24 @@ fn profile(r: u32, d: u32, t: u32) -> Result<Profile, ProfileFault> {
     Ok(profile)
 }
 
-// 0 for a grant, else the number of the refusal: C has no `Result`.
-fn verdict(answer: Result<u32, BoxFault>) -> u32 {
-    match answer {
-        Ok(_) => 0,
+// Opens a box over `words`, gives it what the call reads, and makes the call.
+// Answers 0 for a grant, else the number of the refusal: C has no `Result`.
+fn verdict(
+    words: &mut [u32],
+    input: &Input,
+    profile: Result<Profile, ProfileFault>,
+    call: Call,
+) -> u32 {
+    match profile {
+        Ok(profile) => match call_words(words, profile, 1, input, call) {
+            Ok(_) => 0,
+            Err(fault) => fault.number(),
+        },
         Err(fault) => fault.number(),
     }
 }
 
-// Opens a box over `words`, gives it the positions of a private key and the inverse, and loads. Answers the verdict.
+// Loads a private key: its positions, and the inverse.
 #[unsafe(no_mangle)]
 pub extern "C" fn loaded(
     words: &mut [u32],
@@ -32,13 +42,15 @@ pub extern "C" fn loaded(
     d: u32,
     t: u32,
 ) -> u32 {
-    match profile(r, d, t) {
-        Ok(profile) => verdict(load_words(words, profile, 1, &Input { positions, row })),
-        Err(fault) => fault.number(),
-    }
+    verdict(
+        words,
+        &Input { positions, row },
+        profile(r, d, t),
+        Call::Load,
+    )
 }
 
-// Opens a box over `words`, gives it the error positions and the public row, and seals. Answers the verdict.
+// Seals error positions under a public row.
 #[unsafe(no_mangle)]
 pub extern "C" fn sealed(
     words: &mut [u32],
@@ -48,8 +60,10 @@ pub extern "C" fn sealed(
     d: u32,
     t: u32,
 ) -> u32 {
-    match profile(r, d, t) {
-        Ok(profile) => verdict(seal_words(words, profile, 1, &Input { positions, row })),
-        Err(fault) => fault.number(),
-    }
+    verdict(
+        words,
+        &Input { positions, row },
+        profile(r, d, t),
+        Call::Seal,
+    )
 }

@@ -6,7 +6,7 @@ use Rattle.keybox.specs.declared.device.KeyBox.{KeyBox}
 use Rattle.scheme.specs.declared.profile.Profile.{Profile}
 use Rattle.keybox.specs.declared.call.Call.{Call}
 use Rattle.keybox.specs.declared.lent.Input.{Input}
-use Rattle.keybox.specs.declared.call.Call.TheVariants.{Give, Load, Seal}
+use Rattle.keybox.specs.declared.call.Call.TheVariants.{Give}
 use Rattle.keybox.specs.declared.call.Grant.TheVariants.{Done}
 use Rattle.scheme.specs.Zones.{B}
 use Rattle.keybox.specs.Model.{State, Answer, opened, next}
@@ -50,18 +50,10 @@ gives_from a (w ∷ ws) = Give a w ∷ gives_from (a + 1) ws
 abbrev pub given_calls : Profile → Input → List Call
 given_calls p input = gives_from 0 input.positions.now ++ gives_from (B p) input.row.now
 
--- what a load reads is given, and then it is loaded
-abbrev pub load_calls : Profile → Input → List Call
-load_calls p input = given_calls p input ++ (Load ∷ [])
+-- what a call reads is given, and then the call is made
+abbrev pub given_then : Profile → Input → Call → List Call
+given_then p input c = given_calls p input ++ (c ∷ [])
 
--- what a seal reads is given, and then it is sealed
-abbrev pub seal_calls : Profile → Input → List Call
-seal_calls p input = given_calls p input ++ (Seal ∷ [])
-
--- a box newly opened over a memory, given what a load reads, and loading
-abbrev pub loaded_over : Profile → ℕ → Seen → Input → Driven
-loaded_over p u m input = drive (newly_opened p u m) (load_calls p input)
-
--- a box newly opened over a memory, given what a seal reads, and sealing
-abbrev pub sealed_over : Profile → ℕ → Seen → Input → Driven
-sealed_over p u m input = drive (newly_opened p u m) (seal_calls p input)
+-- a box newly opened over a memory, given what a call reads, and making the call
+abbrev pub called_over : Profile → ℕ → Seen → Input → Call → Driven
+called_over p u m input c = drive (newly_opened p u m) (given_then p input c)

@@ -4,9 +4,10 @@
 
 ghost use Rattle.std.specs.Prelude.{◌≡◌, take, drop, Ok};
 ghost use Rattle.keybox.specs.declared.call.Grant.TheVariants.{Done};
-ghost use Rattle.keybox.specs.Device.{done, rotation_count};
-ghost use Rattle.keybox.specs.Lent.{driven, drive, lent_words, gives_from, given_calls, load_calls, seal_calls, loaded_over, sealed_over};
+ghost use Rattle.keybox.specs.Device.{done};
+ghost use Rattle.keybox.specs.Lent.{driven, drive, lent_words, gives_from, given_calls, given_then, called_over};
 
+use crate::call::{Answer, Call};
 use crate::device::KeyBox;
 use memory::Memory;
 use memory::bare::Bare;
@@ -40,76 +41,43 @@ fn give_input<M: Memory>(keybox: &mut KeyBox<M>, input: &Input) -> Result<(), Bo
     give_all(keybox, row_place, input.row)
 }
 
+// Gives what a call reads, and makes the call.
 #[tactic(auto, using(crate::proofs::Driving::drive_joined, crate::proofs::Driving::drive_stopped))]
-fn give_and_load<M: Memory>(keybox: &mut KeyBox<M>, input: &Input) -> Result<u32, BoxFault>
-    ensures { driven M.Memory keybox.new (rotation_count result) ≡ drive (driven M.Memory keybox.old (Ok Done)) (load_calls keybox.old.profile input.now) }
+fn give_and_call<M: Memory>(keybox: &mut KeyBox<M>, input: &Input, call: Call) -> Answer
+    ensures { driven M.Memory keybox.new result ≡ drive (driven M.Memory keybox.old (Ok Done)) (given_then keybox.old.profile input.now call) }
 {
     give_input(keybox, input)?;
-    keybox.load()
+    keybox.call(call)
 }
 
-#[tactic(auto, using(crate::proofs::Driving::drive_joined, crate::proofs::Driving::drive_stopped))]
-fn give_and_seal<M: Memory>(keybox: &mut KeyBox<M>, input: &Input) -> Result<u32, BoxFault>
-    ensures { driven M.Memory keybox.new (rotation_count result) ≡ drive (driven M.Memory keybox.old (Ok Done)) (seal_calls keybox.old.profile input.now) }
-{
-    give_input(keybox, input)?;
-    keybox.seal()
-}
-
-// Opens a box over a lent memory, gives it error positions and a public row, and seals. The memory is back with its caller afterwards, the public syndrome in OUT.
-pub fn seal_over<M: Memory>(
+// Opens a box over a lent memory, gives it positions and a row, and makes a call: a load of a private key with its inverse, or a seal of error positions with a public row.
+// The memory is back with its caller afterwards, with what the call left in OUT and in KEY.
+pub fn call_over<M: Memory>(
     memory: &mut M,
     profile: Profile,
     unit: u32,
     input: &Input,
-) -> Result<u32, BoxFault>
-    ensures result { rotation_count result ≡ (sealed_over profile unit (M.Memory.seen memory.old) input.now).answer }
-    ensures seen { M.Memory.seen memory.new ≡ (sealed_over profile unit (M.Memory.seen memory.old) input.now).memory }
+    call: Call,
+) -> Answer
+    ensures result { result ≡ (called_over profile unit (M.Memory.seen memory.old) input.now call).answer }
+    ensures seen { M.Memory.seen memory.new ≡ (called_over profile unit (M.Memory.seen memory.old) input.now call).memory }
 {
     let mut keybox = KeyBox::open(profile, unit, memory);
-    give_and_seal(&mut keybox, input)
+    give_and_call(&mut keybox, input, call)
 }
 
 // The same over lent words: of a longer list the first 65,536 are the memory, and the rest stays as it was.
-pub fn seal_words(
+pub fn call_words(
     words: &mut [u32],
     profile: Profile,
     unit: u32,
     input: &Input,
-) -> Result<u32, BoxFault>
-    ensures result { rotation_count result ≡ (sealed_over profile unit (lent_words words.old) input.now).answer }
-    ensures front { take 65536 words.new ≡ (sealed_over profile unit (lent_words words.old) input.now).memory.words }
+    call: Call,
+) -> Answer
+    ensures result { result ≡ (called_over profile unit (lent_words words.old) input.now call).answer }
+    ensures front { take 65536 words.new ≡ (called_over profile unit (lent_words words.old) input.now call).memory.words }
     ensures rest { drop 65536 words.new ≡ drop 65536 words.old }
 {
     let mut memory = Bare::over(words);
-    seal_over(&mut memory, profile, unit, input)
-}
-
-// Opens a box over a lent memory, gives it a private key and its inverse, and loads it. The memory is back with its caller afterwards, the key in KEY and the public row in OUT.
-pub fn load_over<M: Memory>(
-    memory: &mut M,
-    profile: Profile,
-    unit: u32,
-    input: &Input,
-) -> Result<u32, BoxFault>
-    ensures result { rotation_count result ≡ (loaded_over profile unit (M.Memory.seen memory.old) input.now).answer }
-    ensures seen { M.Memory.seen memory.new ≡ (loaded_over profile unit (M.Memory.seen memory.old) input.now).memory }
-{
-    let mut keybox = KeyBox::open(profile, unit, memory);
-    give_and_load(&mut keybox, input)
-}
-
-// The same over lent words.
-pub fn load_words(
-    words: &mut [u32],
-    profile: Profile,
-    unit: u32,
-    input: &Input,
-) -> Result<u32, BoxFault>
-    ensures result { rotation_count result ≡ (loaded_over profile unit (lent_words words.old) input.now).answer }
-    ensures front { take 65536 words.new ≡ (loaded_over profile unit (lent_words words.old) input.now).memory.words }
-    ensures rest { drop 65536 words.new ≡ drop 65536 words.old }
-{
-    let mut memory = Bare::over(words);
-    load_over(&mut memory, profile, unit, input)
+    call_over(&mut memory, profile, unit, input, call)
 }
