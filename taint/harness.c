@@ -155,6 +155,8 @@ static const char *judge_zones(const struct input *in, struct box b, enum reader
     for (uint32_t j = 0; j < b.r; j++)
         if (bit(words + out_address(b), j) != expected_bit(in, b, reader, j))
             return "OUT is wrong";
+    if (b.r % 32 && words[out_address(b) + row_words(b) - 1] >> b.r % 32)
+        return "a tail bit of OUT is set";
     for (uint32_t i = 0; i < 2 * b.d; i++)
         if (words[key_address(b) + i] != (reader == LOAD ? in->word[i] : 0))
             return "KEY is wrong";

@@ -2,7 +2,7 @@
  * As it stands it uses secrets by masks alone. Each value of LEAK from 1 on brings in one leak that the harness must report:
  * 1 a branch on a position, 2 an address made from one, 3 a check that ends at the first offending place, 4 a digit that decides whether a row is moved,
  * 5 a branch on a word of the row, 6 a number of turns that depends on a position, 7 a comparison of rows that ends at the first word that differs,
- * 8 a branch that tells the half of a key in which a position stands twice. */
+ * 8 a branch that tells the half of a key in which a position stands twice. 9 is no leak but a wrong row: a seal leaves a tail bit of OUT set. */
 
 #include <stddef.h>
 #include <stdint.h>
@@ -132,6 +132,8 @@ uint32_t sealed(uint32_t *words, size_t words_len, const uint32_t *positions, si
         return 12;
     for (uint32_t i = 0; i < t; i++)
         add_position(words + place, out + 2 * w, out, r, words[i]);
+    if (LEAK == 9 && r % 32)
+        out[w - 1] |= 1u << 31;
     return 0;
 }
 

@@ -6,7 +6,7 @@ use Rattle.keybox.specs.declared.device.KeyBox.{KeyBox}
 use Rattle.scheme.specs.declared.profile.Profile.{Profile}
 use Rattle.keybox.specs.declared.call.Call.{Call}
 use Rattle.keybox.specs.declared.lent.Input.{Input}
-use Rattle.keybox.specs.declared.call.Call.TheVariants.{Give}
+use Rattle.keybox.specs.declared.call.Call.TheVariants.{Give, Seal}
 use Rattle.keybox.specs.declared.call.Grant.TheVariants.{Done}
 use Rattle.scheme.specs.Zones.{B}
 use Rattle.keybox.specs.Model.{State, Answer, opened, next}
@@ -53,6 +53,10 @@ given_calls p input = gives_from 0 input.positions.now ++ gives_from (B p) input
 -- what a call reads is given, and then the call is made
 abbrev pub given_then : Profile → Input → Call → List Call
 given_then p input c = given_calls p input ++ (c ∷ [])
+
+-- positions given to place 0 onward and a public row to its place, and then a seal
+abbrev pub seal_calls : Profile → List ℕ → List ℕ → List Call
+seal_calls p positions row = gives_from 0 positions ++ (gives_from (B p) row ++ (Seal ∷ []))
 
 -- a box newly opened over a memory, given what a call reads, and making the call
 abbrev pub called_over : Profile → ℕ → Seen → Input → Call → Driven

@@ -1,6 +1,7 @@
 // The checks of the words of IN. Each reads every word that it could need, whatever the words are,
 // so that its accesses tell nothing of the words; the one branch on its outcome is its caller's.
 // Two loops and not one over a closure that tests a word: a closure that reads the memory would have to promise its accesses too.
+// Where a place is added to, the memory is asked its size first, as in `rows`: it is at most 65,536, so that no sum wraps.
 
 ghost use Rattle.std.specs.Prelude.{◌≡◌, ◌+◌, ◌-◌, ◌<◌, ◌≤◌, [], ◌∷◌, length, drop, if◌then◌else◌, None, ◌==◌, nat_le, slice_index};
 ghost use Rattle.std.specs.List.{range_with_len};
@@ -37,6 +38,7 @@ fn stands_in<M: Memory>(m: &mut M, at: u32, i: u32, word: u32, one: One) -> Choi
     ensures value { result.digit ≡ (if earlier (drop at (M.Memory.seen m.old).words) word i then 1 else 0) }
     ensures did { M.Memory.seen m.new ≡ accessed (M.Memory.seen m.old) (read_accesses at i) (M.Memory.seen m.old).words }
 {
+    let _ = m.size();
     let mut found = Choice::no();
     for j in 0..i {
         let other = m.get_within(at + j);
@@ -52,6 +54,7 @@ pub(crate) fn note_again<M: Memory>(m: &mut M, at: u32, n: u32, mark: &mut Mark,
     ensures noted { marked mark.new ≡ or_else (marked mark.old) (again_place (M.Memory.seen m.old).words at n) }
     ensures did { M.Memory.seen m.new ≡ accessed (M.Memory.seen m.old) (pair_accesses at n) (M.Memory.seen m.old).words }
 {
+    let _ = m.size();
     for i in 0..n {
         let word = m.get_within(at + i);
         mark.note(stands_in(m, at, i, word, one), at + i);

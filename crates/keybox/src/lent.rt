@@ -4,8 +4,9 @@
 
 ghost use Rattle.std.specs.Prelude.{◌≡◌, take, drop, Ok};
 ghost use Rattle.keybox.specs.declared.call.Grant.TheVariants.{Done};
-ghost use Rattle.keybox.specs.Device.{done};
-ghost use Rattle.keybox.specs.Lent.{driven, drive, lent_words, gives_from, given_calls, given_then, called_over};
+ghost use Rattle.keybox.specs.declared.call.Call.TheVariants.{Seal};
+ghost use Rattle.keybox.specs.Device.{done, rotation_count};
+ghost use Rattle.keybox.specs.Lent.{driven, drive, newly_opened, lent_words, gives_from, given_calls, given_then, called_over, seal_calls};
 
 use crate::call::{Answer, Call};
 use crate::device::KeyBox;
@@ -50,6 +51,15 @@ fn give_and_call<M: Memory>(keybox: &mut KeyBox<M>, input: &Input, call: Call) -
     keybox.call(call)
 }
 
+// Gives what a seal reads, and seals.
+#[tactic(auto, using(crate::proofs::Driving::drive_joined, crate::proofs::Driving::drive_stopped))]
+fn give_and_seal<M: Memory>(keybox: &mut KeyBox<M>, input: &Input) -> Result<u32, BoxFault>
+    ensures { driven M.Memory keybox.new (rotation_count result) ≡ drive (driven M.Memory keybox.old (Ok Done)) (given_then keybox.old.profile input.now Seal) }
+{
+    give_input(keybox, input)?;
+    keybox.seal()
+}
+
 // Opens a box over a lent memory, gives it positions and a row, and makes a call: a load of a private key with its inverse, or a seal of error positions with a public row.
 // The memory is back with its caller afterwards, with what the call left in OUT and in KEY.
 pub fn call_over<M: Memory>(
@@ -80,4 +90,35 @@ pub fn call_words(
 {
     let mut memory = Bare::over(words);
     call_over(&mut memory, profile, unit, input, call)
+}
+
+// Opens a box over a lent memory, gives it error positions and a public row, and seals: `call_over` at a seal, with the count of rotations alone where it is granted.
+pub fn seal_over<M: Memory>(
+    memory: &mut M,
+    profile: Profile,
+    unit: u32,
+    positions: &[u32],
+    row: &[u32],
+) -> Result<u32, BoxFault>
+    ensures result { rotation_count result ≡ (drive (newly_opened profile unit (M.Memory.seen memory.old)) (seal_calls profile positions.now row.now)).answer }
+    ensures seen { M.Memory.seen memory.new ≡ (drive (newly_opened profile unit (M.Memory.seen memory.old)) (seal_calls profile positions.now row.now)).memory }
+{
+    let mut keybox = KeyBox::open(profile, unit, memory);
+    give_and_seal(&mut keybox, &Input { positions, row })
+}
+
+// The same over lent words, as `call_words` has them.
+pub fn seal_words(
+    words: &mut [u32],
+    profile: Profile,
+    unit: u32,
+    positions: &[u32],
+    row: &[u32],
+) -> Result<u32, BoxFault>
+    ensures result { rotation_count result ≡ (drive (newly_opened profile unit (lent_words words.old)) (seal_calls profile positions.now row.now)).answer }
+    ensures front { take 65536 words.new ≡ (drive (newly_opened profile unit (lent_words words.old)) (seal_calls profile positions.now row.now)).memory.words }
+    ensures rest { drop 65536 words.new ≡ drop 65536 words.old }
+{
+    let mut memory = Bare::over(words);
+    seal_over(&mut memory, profile, unit, positions, row)
 }

@@ -6,17 +6,17 @@ use Rattle.lines.specs.declared.digits.Base.{Base}
 use Rattle.lines.specs.declared.digits.Base.TheVariants.{Decimal, Hexadecimal}
 use Rattle.lines.specs.Digits.{digit, radix}
 
-digit_below : (base : Base) (x d : ℕ) → Some d ≡ digit base x → d < radix base
+pub digit_below : (base : Base) (x d : ℕ) → Some d ≡ digit base x → d < radix base
 digit_below Decimal x d e = grind (arith, nat_tests)
 digit_below Hexadecimal x d e = grind (arith, nat_tests)
 
 -- the value v of fewer than ten digits, and then the digit d
-pub fits_more : (base : Base) (v d x i : ℕ) → v < radix base ^ i → Some d ≡ digit base x → i < 10 → v * radix base + d < 2 ^ 64
-fits_more Decimal v d x i h e l =
+pub fits_more : (base : Base) (v d i : ℕ) → v < radix base ^ i → d < radix base → i < 10 → v * radix base + d < 2 ^ 64
+fits_more Decimal v d i h k l =
     let z : 0 < 10 = omega arith in
     let y : i ≤ 9 = omega arith in
-    let p : 10 ^ i ≤ 10 ^ 9 = pow-le-pow_right z y in omega (arith, digit_below Decimal x d e)
-fits_more Hexadecimal v d x i h e l =
+    let p : 10 ^ i ≤ 10 ^ 9 = pow-le-pow_right z y in omega arith
+fits_more Hexadecimal v d i h k l =
     let z : 0 < 16 = omega arith in
     let y : i ≤ 9 = omega arith in
-    let p : 16 ^ i ≤ 16 ^ 9 = pow-le-pow_right z y in omega (arith, digit_below Hexadecimal x d e)
+    let p : 16 ^ i ≤ 16 ^ 9 = pow-le-pow_right z y in omega arith

@@ -1,8 +1,9 @@
 -- What a line of a script asks for. A line is a letter and the rest after it, with single spaces between parts.
-use Rattle.std.specs.Prelude.{ℕ, Bool, cond, List, [], ◌∷◌, length, drop, Some, None, Option, ◌==◌, nat_lt, slice_index}
+use Rattle.std.specs.Prelude.{ℕ, Bool, cond, List, [], ◌∷◌, length, take, drop, Some, None, Option, ◌==◌, nat_lt, slice_index}
 use Rattle.keybox.specs.declared.call.Call.{Call}
 use Rattle.keybox.specs.declared.call.Call.TheVariants as calls
 use Rattle.lines.specs.declared.command.Setting.{Setting}
+use Rattle.lines.specs.declared.command.Thresholds.{Thresholds}
 use Rattle.lines.specs.declared.command.Command.{Command}
 use Rattle.lines.specs.declared.command.Command.TheVariants.{Set, Order as Ordered}
 use Rattle.lines.specs.declared.command.Order.{Order}
@@ -24,9 +25,13 @@ pub data Request : Type 0 where
 abbrev pub setting : List ℕ → Request
 setting ns = set (slice_index ns 0) (slice_index ns 1) (slice_index ns 2) (drop 3 ns)
 
+-- the thresholds of a line
+abbrev pub kept : Thresholds → List ℕ
+kept t = take t.count t.numbers
+
 -- the numbers of a line
 abbrev pub listed : Setting → List ℕ
-listed s = s.r ∷ s.d ∷ s.t ∷ s.thresholds.items
+listed s = s.r ∷ s.d ∷ s.t ∷ kept s.thresholds
 
 -- what an order asks for, and a command
 abbrev pub ordered : Order → Ask

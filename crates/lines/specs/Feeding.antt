@@ -16,7 +16,7 @@ pub record Cut : Type 0 where
   pub line : Numbered
 
 abbrev pub line_of : Line → Numbered
-line_of l = record { number = l.number; bytes = l.bytes.items }
+line_of l = record { number = l.number; bytes = take l.len l.bytes }
 
 abbrev pub cut_of : Splitter → Cut
 cut_of s = record { count = s.count; line = line_of s.line }

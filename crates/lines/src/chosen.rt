@@ -16,7 +16,8 @@ impl<'a> TryFrom<&'a Setting> for Profile {
 
     fn try_from(setting: &'a Setting) -> Result<Profile, ProfileFault> {
         let mut profile = Profile::standard();
-        profile.set(setting.r, setting.d, setting.t, &setting.thresholds)?;
+        let thresholds = setting.thresholds.as_slice();
+        profile.set(setting.r, setting.d, setting.t, thresholds)?;
         Ok(profile)
     }
 }

@@ -3,22 +3,25 @@
 
 ghost use Rattle.std.specs.Prelude.{◌≡◌, ◌+◌, ◌≤◌, [], ◌∷◌, ◌++◌, length, take, ◌==◌};
 
-use arrayvec::ArrayVec;
-
-#[derive(Clone, Drop)]
+// The first `len` bytes are those of the line. An array with a length, since a line is copied and an `ArrayVec` is not.
+#[derive(Clone, Copy)]
 pub struct Line {
     number: u32,
-    bytes: ArrayVec<u8, 121>,
+    bytes: [u8; 121],
+    len: usize,
+    ghost room: { length bytes ≡ 121 },
+    ghost within: { len ≤ 121 },
 }
 
 impl Line {
     pub(crate) fn empty(number: u32) -> Line
         ensures number { result.number ≡ number }
-        ensures bytes { result.bytes.items ≡ [] }
+        ensures len { result.len ≡ 0 }
     {
         Line {
             number,
-            bytes: ArrayVec::new(),
+            bytes: [0; 121],
+            len: 0,
         }
     }
 
@@ -29,24 +32,26 @@ impl Line {
     }
 
     pub fn as_bytes(&self) -> &[u8]
-        ensures { result.now ≡ self.now.bytes.items }
+        ensures value { result.now ≡ take self.now.len self.now.bytes }
+        ensures fits { length result.now ≤ 121 }
     {
-        self.bytes.as_slice()
+        &self.bytes[..self.len]
     }
 
     pub(crate) fn is_empty(&self) -> bool
-        ensures { result ≡ (length self.now.bytes.items == 0) }
+        ensures { result ≡ (self.now.len == 0) }
     {
-        self.bytes.is_empty()
+        self.len == 0
     }
 
     pub(crate) fn push(&mut self, byte: u8)
         ensures number { self.new.number ≡ self.old.number }
-        ensures bytes { self.new.bytes.items ≡ take 121 (self.old.bytes.items ++ byte ∷ []) }
-        ensures len { length self.new.bytes.items ≤ length self.old.bytes.items + 1 }
+        ensures bytes { take self.new.len self.new.bytes ≡ take 121 (take self.old.len self.old.bytes ++ byte ∷ []) }
+        ensures len { self.new.len ≤ self.old.len + 1 }
     {
-        if !self.bytes.is_full() {
-            self.bytes.push(byte);
+        if self.len < self.bytes.len() {
+            self.bytes[self.len] = byte;
+            self.len += 1;
         }
     }
 }

@@ -7,7 +7,7 @@ ghost use Rattle.lines.specs.Digits.{then};
 ghost use Rattle.lines.specs.Commands.{request, ordered, meaning, parts as parts_of, numbers, if_three, alone as alone_of, giving as giving_of, taking as taking_of, asked as asked_of};
 ghost use Rattle.lines.specs.declared.command.Command.TheVariants.{Set};
 
-use crate::command::{Command, Order, Setting};
+use crate::command::{Command, Order, Setting, Thresholds};
 use crate::parts::Parts;
 use keybox::call::Call;
 
@@ -19,11 +19,12 @@ fn setting(mut parts: Parts) -> Option<Setting>
     let r = parts.number()?;
     let d = parts.number()?;
     let t = parts.number()?;
+    let thresholds = Thresholds::from(&parts.numbers()?);
     Some(Setting {
         r,
         d,
         t,
-        thresholds: parts.numbers()?,
+        thresholds,
     })
 }
 

@@ -5,6 +5,11 @@ use lib.Bits.{bit_xor, xor_assoc, xor_self, xor_zero_r}
 use Rattle.memory.specs.Access.{Seen, get, put, accessed}
 use Rattle.memory.specs.Layers.{pad, padded, scrambler}
 
+-- pads keep the length
+pub length_padded : (seed i : ℕ) (ws : List ℕ) → length (padded seed i ws) ≡ length ws
+length_padded seed i [] = refl
+length_padded seed i (w ∷ ws) = ap suc (length_padded seed (i + 1) ws)
+
 -- a word and the pad of its address j, in words that begin at the address i
 at_from : (seed i : ℕ) (ws : List ℕ) (a j : ℕ) → i + a ≡ j → a < length ws → get_or (padded seed i ws) a 0 ≡ bit_xor (get_or ws a 0) (pad seed j)
 at_from seed i [] a j e h = absurd (omega arith)

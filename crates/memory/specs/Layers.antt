@@ -1,7 +1,6 @@
 -- What each memory of this crate is: its words, and the trail that its accesses leave.
 -- A layer is told by what it makes of the memory below, so that a stack of layers is known from its parts.
-use Rattle.std.specs.Prelude.{◌≡◌, ℕ, suc, ◌+◌, ◌*◌, ◌%◌, ◌^◌, cond, List, [], ◌∷◌, ◌++◌, length, take, drop, bit_xor, nat_le, nat_lt, slice_set, refl}
-use Rattle.std.proofs.Common.{ap}
+use Rattle.std.specs.Prelude.{ℕ, ◌+◌, ◌*◌, ◌%◌, ◌^◌, cond, List, [], ◌∷◌, ◌++◌, length, take, drop, bit_xor, nat_le, nat_lt, slice_set}
 use Rattle.memory.specs.Access.{Rule, Seen}
 
 -- the words of a lent list that addresses reach: the first 65,536
@@ -64,11 +63,6 @@ pad seed a = bit_xor seed (a * 2654435761 % 2 ^ 32)
 abbrev pub padded : ℕ → ℕ → List ℕ → List ℕ
 padded seed i [] = []
 padded seed i (w ∷ ws) = bit_xor w (pad seed i) ∷ padded seed (i + 1) ws
-
--- as many as there were
-pub length_padded : (seed i : ℕ) (ws : List ℕ) → length (padded seed i ws) ≡ length ws
-length_padded seed i [] = refl
-length_padded seed i (w ∷ ws) = ap suc (length_padded seed (i + 1) ws)
 
 -- a scrambler over a memory
 abbrev pub scrambler : ℕ → Seen → Seen

@@ -3,7 +3,6 @@
 
 ghost use Rattle.std.specs.Prelude.{◌≡◌, ◌≤◌, length, slice_index};
 ghost use Rattle.memory.specs.Layers.{bare, reached, written};
-ghost use Rattle.std.proofs.Common.{arith, length-take};
 
 use crate::Memory;
 
@@ -65,8 +64,6 @@ fn write_word(words: &mut [u32], a: u32, w: u32)
 
 impl<'a> Memory for Bare<'a> {
     ghost seen = { λ m. bare m.words.ghost_name m.words.now };
-
-    ghost limited = { λ m. Prim.omega (arith, length-take 65536 m.words.now) };
 
     fn size(&self) -> u32 {
         reach(self.words)

@@ -43,9 +43,6 @@ pub trait Memory {
     {
         self.put(a, w);
     }
-
-    // No memory has more words than addresses of 16 bits reach, so that no sum of a place and a length can wrap.
-    ghost limited: { (m : Self) → length (seen m).words ≤ 65536 };
 }
 
 // A memory whose trail can be heard: it tells a number that it works out from the trail alone.
@@ -59,8 +56,6 @@ pub trait HeardMemory: Memory {
 // A lent memory is a memory.
 impl<'a, M: Memory> Memory for &'a mut M {
     ghost seen = { λ m. record { words = (M.Memory.seen m.now).words; trail = (M.Memory.seen m.now).trail; rule = (M.Memory.seen m.now).rule; outside = (M.Memory.seen m.now).outside; home = m.ghost_name ∷ (M.Memory.seen m.now).home } };
-
-    ghost limited = { λ m. M.Memory.limited m.now };
 
     fn size(&self) -> u32 {
         (**self).size()

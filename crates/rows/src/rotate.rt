@@ -44,6 +44,7 @@ fn slide(lo: u32, hi: u32, s: u32, one: One) -> u32
 
 // Lays the row of `r` bits at `from`, of `n` words, twice at `to`, one copy after the other.
 // The second copy begins within the word that the first one ends in, and each word of it passes on what it cannot hold.
+#[inline(always)]
 fn lay_twice<M: Memory>(m: &mut M, r: u32, from: u32, to: u32, n: u32)
     requires long { 0 < r }
     requires size { n ≡ words_taken r }
@@ -53,6 +54,7 @@ fn lay_twice<M: Memory>(m: &mut M, r: u32, from: u32, to: u32, n: u32)
     requires tail { row (M.Memory.seen m.old).words from n < 2 ^ r }
     ensures did { M.Memory.seen m.new ≡ accessed (M.Memory.seen m.old) (twice_accesses from to (n - 1)) (filled (M.Memory.seen m.old).words to (word (doubled r (row (M.Memory.seen m.old).words from n))) (2 * n)) }
 {
+    let _ = m.size();
     let q = n - 1;
     let b = r - 32 * q;
     let last = m.get_within(from + q);
@@ -71,11 +73,13 @@ fn lay_twice<M: Memory>(m: &mut M, r: u32, from: u32, to: u32, n: u32)
 
 // Shifts what is left of a row of `n` words, laid twice at `base`, down by `v` words where the choice is yes.
 // It writes as many words as what follows can read. The word further up is read first, which lets the compiler take several at once.
+#[inline(always)]
 fn stage<M: Memory>(m: &mut M, n: u32, base: u32, v: u32, choice: Choice)
     requires space { base + 2 * n ≤ length (M.Memory.seen m.old).words }
     requires by { v < n }
     ensures did { M.Memory.seen m.new ≡ accessed (M.Memory.seen m.old) (stage_accesses base v (reach n v)) (filled (M.Memory.seen m.old).words base (staged (M.Memory.seen m.old).words base v choice.digit) (reach n v)) }
 {
+    let _ = m.size();
     for w in 0..(n + v).min(2 * n - v) {
         let far = m.get_within(base + w + v);
         let near = m.get_within(base + w);
@@ -84,12 +88,14 @@ fn stage<M: Memory>(m: &mut M, n: u32, base: u32, v: u32, choice: Choice)
 }
 
 // Shifts the n + 1 words at `base` down by s mod 32 bits, and cuts what is left to `r` bits, which take `n` words.
+#[inline(always)]
 fn finish<M: Memory>(m: &mut M, r: u32, base: u32, n: u32, s: u32, one: One)
     requires long { 0 < r }
     requires size { n ≡ words_taken r }
     requires space { base + n + 1 ≤ length (M.Memory.seen m.old).words }
     ensures did { M.Memory.seen m.new ≡ accessed (M.Memory.seen m.old) (get base ∷ slide_accesses base n) (filled (M.Memory.seen m.old).words base (cut_slid (M.Memory.seen m.old).words base r (s % 32)) n) }
 {
+    let _ = m.size();
     let q = n - 1;
     let mut lo = m.get_within(base);
     for w in 0..q {
@@ -102,12 +108,14 @@ fn finish<M: Memory>(m: &mut M, r: u32, base: u32, n: u32, s: u32, one: One)
 }
 
 // Lays the row of `r` bits at `from`, rotated by `by`, at `scratch`, and as many zero words after it. Answers the count of rotations, one higher.
+#[inline(always)]
 pub fn rotate<M: Memory>(m: &mut M, r: u32, from: u32, scratch: u32, by: u32, count: u32) -> u32
     requires fits { Turnable r from scratch by (M.Memory.seen m.old).words }
     requires next { count + 1 < 2 ^ 32 }
     ensures count { result ≡ count + 1 }
     ensures did { M.Memory.seen m.new ≡ accessed (M.Memory.seen m.old) (rotate_accesses r from scratch) (over (M.Memory.seen m.old).words scratch (words_of r (rotated r by (row_at (M.Memory.seen m.old).words from)) ++ replicate (words_taken r) 0)) }
 {
+    let _ = m.size();
     let n = width(r);
     let one = One::hidden(r);
     let down = one.opposite(r, by);

@@ -16,6 +16,7 @@ use super::rotate::rotate;
 use memory::Memory;
 
 // Where the row lies that the position rotates, and the position in its half. Of two rows the chosen one is brought to the room first.
+#[inline(always)]
 fn choose<M: Memory>(m: &mut M, plan: Plan, position: u32, one: One) -> (u32, u32)
     requires space { plan.scratch + rows plan.source * width plan.r ≤ length (M.Memory.seen m.old).words }
     requires rows { RowsApart plan.r plan.source (M.Memory.seen m.old).words plan.scratch (rows plan.source * width plan.r) }
@@ -23,6 +24,7 @@ fn choose<M: Memory>(m: &mut M, plan: Plan, position: u32, one: One) -> (u32, u3
     ensures position { result.1 ≡ position_in plan.r plan.source position }
     ensures did { M.Memory.seen m.new ≡ accessed (M.Memory.seen m.old) (choice_accesses plan.r plan.source plan.scratch) (chosen_words plan.r plan.source plan.scratch position (M.Memory.seen m.old).words) }
 {
+    let _ = m.size();
     match plan.source {
         Source::One(a) => (a, one.as_position(plan.r, position)),
         Source::Either(a, b) => {
@@ -35,6 +37,7 @@ fn choose<M: Memory>(m: &mut M, plan: Plan, position: u32, one: One) -> (u32, u3
 }
 
 // Adds the row of position `i`: the row is chosen, rotated in the room, and added. The room is left as it is then.
+#[inline(always)]
 fn step<L: Lanes + Drop, M: Memory>(m: &mut M, plan: Plan, i: u32, count: u32) -> u32
     requires fits { Fits L.Lanes.depth plan (M.Memory.seen m.old).words }
     requires within { i < plan.count }
@@ -43,6 +46,7 @@ fn step<L: Lanes + Drop, M: Memory>(m: &mut M, plan: Plan, i: u32, count: u32) -
     ensures words { but_room plan (M.Memory.seen m.new).words ≡ but_room plan (step_words L.Lanes.add L.Lanes.depth plan i (M.Memory.seen m.old).words) }
     ensures did { M.Memory.seen m.new ≡ accessed (M.Memory.seen m.old) (step_accesses L.Lanes.depth plan i) (M.Memory.seen m.new).words }
 {
+    let _ = m.size();
     let one = One::hidden(plan.r);
     let word = m.get_within(plan.at + i);
     let (from, position) = choose(m, plan, word, one);
@@ -53,12 +57,14 @@ fn step<L: Lanes + Drop, M: Memory>(m: &mut M, plan: Plan, i: u32, count: u32) -
 }
 
 // Adds the row of each position, rotated by it, to the numbers at `plan.into`, and answers the count of rotations. The room is zero afterwards.
+#[inline(always)]
 pub fn sum<L: Lanes + Drop, M: Memory>(m: &mut M, plan: Plan, count: u32) -> u32
     requires fits { Fits L.Lanes.depth plan (M.Memory.seen m.old).words }
     requires next { count + plan.count < 2 ^ 32 }
     ensures count { result ≡ count + plan.count }
     ensures did { M.Memory.seen m.new ≡ accessed (M.Memory.seen m.old) (sum_accesses L.Lanes.depth plan) (sum_words L.Lanes.add L.Lanes.depth plan (M.Memory.seen m.old).words) }
 {
+    let _ = m.size();
     let mut turned = count;
     for i in 0..plan.count {
         turned = step::<L, M>(m, plan, i, turned);

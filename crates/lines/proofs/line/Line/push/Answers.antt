@@ -1,14 +1,12 @@
 -- With room the byte is the last one kept; without, what is kept stays.
-use Rattle.std.proofs.Common.{◌≤◌, [], ◌∷◌, ◌++◌, length, sym, ◌∙◌, arith, length-append}
-use Rattle.std.proofs.lemmas.List.{take_all, take_at}
+use Rattle.std.proofs.Common.{rules}
+use Rattle.lines.proofs.Keeping.{kept_more, kept_full}
 use Rattle.lines.proofs.line.Line.push.Goals as goal
 
-pub returns-then-not-is_full-clause-bytes : goal.returns-then-not-is_full-clause-bytes
-returns-then-not-is_full-clause-bytes c =
-    let xs = c.args.self.now.bytes.items ++ c.args.byte ∷ [] in
-    let h : length xs ≤ 121 = simp length-append (grind arith) in
-    c.push.ensures.items ∙ sym (take_all 121 xs h)
+pub returns-then-self-lt121 : goal.returns-then-self-lt121
+returns-then-self-lt121 c =
+    record { number = search rules; bytes = kept_more 121 c.args.self.now.bytes c.args.self.now.len c.args.byte (search rules) (search rules); len = search rules }
 
-pub returns-else-not-is_full-clause-bytes : goal.returns-else-not-is_full-clause-bytes
-returns-else-not-is_full-clause-bytes c =
-    sym (take_at c.args.self.now.bytes.items (c.args.byte ∷ []) 121 (grind arith))
+pub returns-else-self-lt121 : goal.returns-else-self-lt121
+returns-else-self-lt121 c =
+    record { number = search rules; bytes = kept_full 121 c.args.self.now.bytes c.args.self.now.len c.args.byte (search rules) (search rules) (search rules); len = search rules }

@@ -1,6 +1,6 @@
 use Rattle.std.proofs.Common.{rules}
 use Rattle.std.proofs.lemmas.List.{get_or_past}
-use Rattle.memory.specs.Layers.{length_padded}
+use Rattle.memory.proofs.Pads.{length_padded}
 use Rattle.memory.proofs.scrambler.ScramblerMemory.get.Goals as goal
 
 pub returns-else-a-size-clause-value : goal.returns-else-a-size-clause-value
